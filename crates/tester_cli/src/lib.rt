@@ -1,0 +1,7 @@
+//! The commands of the bench: from the words and files that come in to the text and status that go out.
+#![tactic(auto)]
+
+pub mod status;
+mod text;
+
+pub use status::{SourceFault, Status, fault_text};
