@@ -1,0 +1,14 @@
+//! What a checked program is and means: its values, its tree, its store, and the world that it asks.
+#![tactic(auto)]
+
+mod error;
+mod host;
+mod store;
+mod tree;
+mod value;
+
+pub use error::{ErrorKind, RunError};
+pub use host::{Host, HostCall, HostEnd, Reply};
+pub use store::{Frame, Store};
+pub use tree::{Checked, Expression, Function, Native, Statement};
+pub use value::{Value, ValueList};
