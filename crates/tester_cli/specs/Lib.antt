@@ -1,1 +1,4 @@
 pub mod Texts
+pub mod Report
+pub mod Times
+pub mod Pieces

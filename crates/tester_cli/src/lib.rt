@@ -2,6 +2,9 @@
 #![tactic(auto)]
 
 pub mod status;
+mod report;
+pub mod result;
 mod text;
+mod time;
 
 pub use status::{SourceFault, Status, fault_text};
