@@ -1,4 +1,5 @@
 pub mod Texts
+pub mod Journal
 pub mod Report
 pub mod Times
 pub mod Pieces

@@ -6,5 +6,6 @@ mod report;
 pub mod result;
 mod text;
 mod time;
+pub mod world;
 
 pub use status::{SourceFault, Status, fault_text};

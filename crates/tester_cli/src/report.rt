@@ -80,7 +80,7 @@ fn push_bytes(text: &mut Text8, bytes: &[u8]) -> Result<(), OutOfMemory>
 }
 
 #[tactic(auto, unfolding(crate::specs::Report::shown_text))]
-fn push_shown(alloc: Global, text: &mut Text8, units: &[u16]) -> Result<(), OutOfMemory>
+pub fn push_shown(alloc: Global, text: &mut Text8, units: &[u16]) -> Result<(), OutOfMemory>
     ensures { OnOk result (text.new ≡ text.old ++ shown_text units.now) }
 {
     let characters = String::from_utf16_lossy(alloc, units)?;
