@@ -2,6 +2,7 @@
 #![tactic(auto)]
 
 pub mod status;
+mod outside;
 mod report;
 pub mod result;
 mod text;
