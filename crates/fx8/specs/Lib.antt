@@ -1,3 +1,4 @@
 pub mod Integers
 pub mod Lends
+pub mod Operators
 pub mod formers
