@@ -20,8 +20,9 @@ other_asked : (a b asked : List ℕ) → bytes_eq a b ≡ false → bytes_eq a a
 other_asked a b asked h e =
     let P : Bool → Type 0 = λ v. bytes_eq b asked ≡ v → bytes_eq b asked ≡ false in
     (elim (bytes_eq b asked) as P [
-      true ↦ λ q. absurd (false≢true (sym h ∙ (bytes_eq-Decides a b).1 ((bytes_eq-Decides a asked).0 e ∙ sym ((bytes_eq-Decides b asked).0 q))))
-    | false ↦ λ q. q ]) refl
+      | true ↦ λ q. absurd (false≢true (sym h ∙ (bytes_eq-Decides a b).1 ((bytes_eq-Decides a asked).0 e ∙ sym ((bytes_eq-Decides b asked).0 q))))
+      | false ↦ λ q. q
+    ]) refl
 
 -- what is asked for at the front of a list
 front : (x : Held) (files : List Held) (asked : List ℕ) → held_in (x ∷ files) asked ≡ cond (bytes_eq x.name asked) (Some x.bytes) (held_in files asked)
@@ -33,8 +34,9 @@ behind : (name bytes : List ℕ) (x : Held) (files after : List Held) (asked : L
 behind name bytes x files after asked other rest =
     let P : Bool → Type 0 = λ v. bytes_eq x.name asked ≡ v → cond v (Some x.bytes) (held_in after asked) ≡ cond (bytes_eq name asked) (Some bytes) (cond v (Some x.bytes) (held_in files asked)) in
     let e = (elim (bytes_eq x.name asked) as P [
-      true ↦ λ q. let n : bytes_eq name asked ≡ false = other_asked x.name name asked other q in rw n refl
-    | false ↦ λ q. rest ]) refl in
+      | true ↦ λ q. let n : bytes_eq name asked ≡ false = other_asked x.name name asked other q in rw n refl
+      | false ↦ λ q. rest
+    ]) refl in
     front x after asked ∙ e ∙ ap (λ (o : Option (List ℕ)). cond (bytes_eq name asked) (Some bytes) o) (sym (front x files asked))
 
 -- replacing the first file of a name
@@ -54,8 +56,9 @@ added_at f asked [] far = front f [] asked
 added_at f asked (x ∷ files) far =
     let P : Bool → Type 0 = λ v. bytes_eq x.name f.name ≡ v → (suc (length files) ≤ cond (not v) (1 + position_or_len (named f.name) files) 0) → held_in (x ∷ (files ++ f ∷ [])) asked ≡ holding (held_in (x ∷ files)) f.name f.bytes asked in
     (elim (bytes_eq x.name f.name) as P [
-      true ↦ λ q h. absurd (omega arith)
-    | false ↦ λ q h. behind f.name f.bytes x files (files ++ f ∷ []) asked q (added_at f asked files (omega arith)) ]) refl far
+      | true ↦ λ q h. absurd (omega arith)
+      | false ↦ λ q h. behind f.name f.bytes x files (files ++ f ∷ []) asked q (added_at f asked files (omega arith))
+    ]) refl far
 
 -- where no place was found, none is before the end
 no_place : (p : Held → Bool) (files : List Held) → position p files ≡ None → length files ≤ position_or_len p files

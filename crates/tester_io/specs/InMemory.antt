@@ -26,6 +26,22 @@ abbrev pub wanted : MemFiles → List ℕ → ℕ → Result (List ℕ) FileFaul
 wanted files name limit =
     if is_to_fail (calls_to_fail files) (calls_made files) then Err Failed else reading (contents files name) limit
 
+-- how many readings failed (own)
+abbrev pub failed_reads : MemFiles → ℕ
+failed_reads files = files.read_faults
+
+-- how many writings failed (own)
+abbrev pub failed_writes : MemFiles → ℕ
+failed_writes files = files.write_faults
+
+-- how many readings asked for a name that is not held (own)
+abbrev pub absent_reads : MemFiles → ℕ
+absent_reads files = files.shelf.absents
+
+-- how many readings found more bytes than they take (own)
+abbrev pub oversized_reads : MemFiles → ℕ
+oversized_reads files = files.shelf.oversizes
+
 -- what the sink has (own)
 abbrev pub written : MemSink → List ℕ
 written sink = sink.bytes
@@ -38,6 +54,10 @@ writes_made sink = sink.turns.calls
 abbrev pub writes_to_fail : MemSink → List ℕ
 writes_to_fail sink = sink.turns.fails
 
+-- how many writings failed (own)
+abbrev pub sink_failures : MemSink → ℕ
+sink_failures sink = sink.write_faults
+
 -- how much of a piece a sink in memory takes at once: 64 bytes at most (own)
 abbrev pub taken : List ℕ → ℕ
 taken piece = min 64 (length piece)
@@ -45,6 +65,14 @@ taken piece = min 64 (length piece)
 -- what the names hold in files that do not fail (own)
 abbrev pub calm_contents : CalmFiles → Contents
 calm_contents files = held_in files.shelf.files
+
+-- how many readings asked for a name that is not held (own)
+abbrev pub calm_absents : CalmFiles → ℕ
+calm_absents files = files.shelf.absents
+
+-- how many readings found more bytes than they take (own)
+abbrev pub calm_oversizes : CalmFiles → ℕ
+calm_oversizes files = files.shelf.oversizes
 
 -- what a sink that does not fail has (own)
 abbrev pub calm_written : CalmSink → List ℕ

@@ -31,3 +31,7 @@ pub record Counts (Fault : Type 0) (before now : ℕ) : Type 0 where
   pub never_falls : before ≤ now
   pub rose : Fault → Rose before now
   pub stays : (Fault → ⊥) → now ≡ before
+
+-- the count rose by one at most (own)
+abbrev pub AtMostOnce : ℕ → ℕ → Type 0
+AtMostOnce before now = now ≤ before + 1

@@ -1,9 +1,9 @@
 //! Files and a sink in memory that never fail.
 ghost use Rattle.std.specs.Prelude.{◌≡◌, ℕ, ◌<◌, ◌≤◌, ◌++◌, [], List, length, take, Option, Some, None, OnOk, OnErr, IfOk, IsErrOf};
 ghost use Rattle.std.specs.Option.{option_copied};
-ghost use Rattle.tester_io.specs.Outside.{holding, empty, CutShort, WhereTold, Counts};
+ghost use Rattle.tester_io.specs.Outside.{holding, empty, CutShort, WhereTold, Counts, AtMostOnce};
 ghost use Rattle.tester_io.specs.Memory.{reading, Gives};
-ghost use Rattle.tester_io.specs.InMemory.{calm_contents, calm_written, taken};
+ghost use Rattle.tester_io.specs.InMemory.{calm_contents, calm_absents, calm_oversizes, calm_written, taken};
 
 use crate::memory_sink::accept;
 use crate::shelf::Shelf;
@@ -21,8 +21,8 @@ impl CalmFiles {
     /// Files that hold nothing.
     pub fn new(alloc: Global) -> CalmFiles
         ensures contents { calm_contents result ≡ empty }
-        ensures absents { ⟦<CalmFiles as Files>⟧.absents result ≡ 0 }
-        ensures oversizes { ⟦<CalmFiles as Files>⟧.oversizes result ≡ 0 }
+        ensures absents { calm_absents result ≡ 0 }
+        ensures oversizes { calm_oversizes result ≡ 0 }
     {
         CalmFiles {
             shelf: Shelf::new(alloc),
@@ -33,8 +33,8 @@ impl CalmFiles {
     pub fn set(&mut self, name: &Text8, bytes: &[u8]) -> Result<(), OutOfMemory>
         ensures ok { OnOk result (calm_contents self.new ≡ holding (calm_contents self.old) name.now bytes.now) }
         ensures err { OnErr result (self.new ≡ self.old) }
-        ensures absents { ⟦<CalmFiles as Files>⟧.absents self.new ≡ ⟦<CalmFiles as Files>⟧.absents self.old }
-        ensures oversizes { ⟦<CalmFiles as Files>⟧.oversizes self.new ≡ ⟦<CalmFiles as Files>⟧.oversizes self.old }
+        ensures absents { calm_absents self.new ≡ calm_absents self.old }
+        ensures oversizes { calm_oversizes self.new ≡ calm_oversizes self.old }
     {
         self.shelf.put(name.as_slice(), bytes)
     }
@@ -52,9 +52,9 @@ impl Files for CalmFiles {
 
     ghost read_faults = { λ _. 0 };
 
-    ghost absents = { λ files. files.shelf.absents };
+    ghost absents = { calm_absents };
 
-    ghost oversizes = { λ files. files.shelf.oversizes };
+    ghost oversizes = { calm_oversizes };
 
     ghost write_faults = { λ _. 0 };
 
@@ -63,8 +63,10 @@ impl Files for CalmFiles {
         ensures within { IfOk result (λ bytes. length bytes ≤ limit) }
         ensures answer { Gives result (reading (calm_contents self.old name.now) limit) }
         ensures never_fails { IsErrOf result FileFault.Failed → ⊥ }
-        ensures absents { Counts (IsErrOf result FileFault.Absent) self.old.shelf.absents self.new.shelf.absents }
-        ensures oversizes { Counts (IsErrOf result FileFault.TooLarge) self.old.shelf.oversizes self.new.shelf.oversizes }
+        ensures absents { Counts (IsErrOf result FileFault.Absent) (calm_absents self.old) (calm_absents self.new) }
+        ensures oversizes { Counts (IsErrOf result FileFault.TooLarge) (calm_oversizes self.old) (calm_oversizes self.new) }
+        ensures absents_once { AtMostOnce (calm_absents self.old) (calm_absents self.new) }
+        ensures oversizes_once { AtMostOnce (calm_oversizes self.old) (calm_oversizes self.new) }
     {
         self.shelf.read(name.as_slice(), limit)
     }
@@ -73,8 +75,8 @@ impl Files for CalmFiles {
         ensures written { OnOk result (calm_contents self.new ≡ holding (calm_contents self.old) name.now bytes.now) }
         ensures cut_short { OnErr result (calm_contents self.new ≡ calm_contents self.old) }
         ensures never_fails { IsErrOf result WriteError.Failed → ⊥ }
-        ensures absents { self.new.shelf.absents ≡ self.old.shelf.absents }
-        ensures oversizes { self.new.shelf.oversizes ≡ self.old.shelf.oversizes }
+        ensures absents { calm_absents self.new ≡ calm_absents self.old }
+        ensures oversizes { calm_oversizes self.new ≡ calm_oversizes self.old }
     {
         self.shelf.put(name.as_slice(), bytes)?;
         Ok(())

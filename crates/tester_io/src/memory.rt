@@ -1,9 +1,9 @@
 //! Files in memory, of which chosen calls fail.
 ghost use Rattle.std.specs.Prelude.{◌≡◌, ℕ, ◌+◌, ◌-◌, ◌^◌, ◌<◌, ◌≤◌, min, ◌++◌, List, length, take, Option, Some, None, OnOk, OnErr, IfOk, IsErrOf, IsSomeAnd, IsTrue, ◌↔◌};
 ghost use Rattle.std.specs.Option.{option_copied};
-ghost use Rattle.tester_io.specs.Outside.{holding, empty, CutShort, WhereTold, Counts};
+ghost use Rattle.tester_io.specs.Outside.{holding, empty, CutShort, WhereTold, Counts, AtMostOnce};
 ghost use Rattle.tester_io.specs.Memory.{is_to_fail, Gives};
-ghost use Rattle.tester_io.specs.InMemory.{contents, calls_made, calls_to_fail, wanted};
+ghost use Rattle.tester_io.specs.InMemory.{contents, calls_made, calls_to_fail, wanted, failed_reads, failed_writes, absent_reads, oversized_reads};
 
 use crate::shelf::{Shelf, Turns};
 use crate::{FileFault, Files, WriteError};
@@ -26,10 +26,10 @@ impl MemFiles {
         ensures contents { contents result ≡ empty }
         ensures calls { calls_made result ≡ 0 }
         ensures fails { calls_to_fail result ≡ fails }
-        ensures read_faults { ⟦<MemFiles as Files>⟧.read_faults result ≡ 0 }
-        ensures absents { ⟦<MemFiles as Files>⟧.absents result ≡ 0 }
-        ensures oversizes { ⟦<MemFiles as Files>⟧.oversizes result ≡ 0 }
-        ensures write_faults { ⟦<MemFiles as Files>⟧.write_faults result ≡ 0 }
+        ensures read_faults { failed_reads result ≡ 0 }
+        ensures absents { absent_reads result ≡ 0 }
+        ensures oversizes { oversized_reads result ≡ 0 }
+        ensures write_faults { failed_writes result ≡ 0 }
     {
         MemFiles {
             shelf: Shelf::new(alloc),
@@ -45,10 +45,10 @@ impl MemFiles {
         ensures err { OnErr result (self.new ≡ self.old) }
         ensures calls { calls_made self.new ≡ calls_made self.old }
         ensures fails { calls_to_fail self.new ≡ calls_to_fail self.old }
-        ensures read_faults { ⟦<MemFiles as Files>⟧.read_faults self.new ≡ ⟦<MemFiles as Files>⟧.read_faults self.old }
-        ensures absents { ⟦<MemFiles as Files>⟧.absents self.new ≡ ⟦<MemFiles as Files>⟧.absents self.old }
-        ensures oversizes { ⟦<MemFiles as Files>⟧.oversizes self.new ≡ ⟦<MemFiles as Files>⟧.oversizes self.old }
-        ensures write_faults { ⟦<MemFiles as Files>⟧.write_faults self.new ≡ ⟦<MemFiles as Files>⟧.write_faults self.old }
+        ensures read_faults { failed_reads self.new ≡ failed_reads self.old }
+        ensures absents { absent_reads self.new ≡ absent_reads self.old }
+        ensures oversizes { oversized_reads self.new ≡ oversized_reads self.old }
+        ensures write_faults { failed_writes self.new ≡ failed_writes self.old }
     {
         self.shelf.put(name.as_slice(), bytes)
     }
@@ -64,13 +64,13 @@ impl MemFiles {
 impl Files for MemFiles {
     ghost told = { λ files. Some (contents files) };
 
-    ghost read_faults = { λ files. files.read_faults };
+    ghost read_faults = { failed_reads };
 
-    ghost absents = { λ files. files.shelf.absents };
+    ghost absents = { absent_reads };
 
-    ghost oversizes = { λ files. files.shelf.oversizes };
+    ghost oversizes = { oversized_reads };
 
-    ghost write_faults = { λ files. files.write_faults };
+    ghost write_faults = { failed_writes };
 
     fn read_all(&mut self, name: &Text8, limit: u64) -> Result<Text8, FileFault>
         ensures told_stays { contents self.new ≡ contents self.old }
@@ -78,10 +78,13 @@ impl Files for MemFiles {
         ensures answer { Gives result (wanted self.old name.now limit) }
         ensures calls { calls_made self.new ≡ min (calls_made self.old + 1) (2 ^ 64 - 1) }
         ensures fails { calls_to_fail self.new ≡ calls_to_fail self.old }
-        ensures absents { Counts (IsErrOf result FileFault.Absent) self.old.shelf.absents self.new.shelf.absents }
-        ensures read_faults { Counts (IsErrOf result FileFault.Failed) self.old.read_faults self.new.read_faults }
-        ensures oversizes { Counts (IsErrOf result FileFault.TooLarge) self.old.shelf.oversizes self.new.shelf.oversizes }
-        ensures write_faults { self.new.write_faults ≡ self.old.write_faults }
+        ensures absents { Counts (IsErrOf result FileFault.Absent) (absent_reads self.old) (absent_reads self.new) }
+        ensures read_faults { Counts (IsErrOf result FileFault.Failed) (failed_reads self.old) (failed_reads self.new) }
+        ensures oversizes { Counts (IsErrOf result FileFault.TooLarge) (oversized_reads self.old) (oversized_reads self.new) }
+        ensures absents_once { AtMostOnce (absent_reads self.old) (absent_reads self.new) }
+        ensures read_faults_once { AtMostOnce (failed_reads self.old) (failed_reads self.new) }
+        ensures oversizes_once { AtMostOnce (oversized_reads self.old) (oversized_reads self.new) }
+        ensures write_faults { failed_writes self.new ≡ failed_writes self.old }
     {
         if self.turns.take() {
             self.read_faults = self.read_faults.saturating_add(1);
@@ -96,10 +99,11 @@ impl Files for MemFiles {
         ensures answer { IsErrOf result WriteError.Failed ↔ IsTrue (is_to_fail (calls_to_fail self.old) (calls_made self.old)) }
         ensures calls { calls_made self.new ≡ min (calls_made self.old + 1) (2 ^ 64 - 1) }
         ensures fails { calls_to_fail self.new ≡ calls_to_fail self.old }
-        ensures write_faults { Counts (IsErrOf result WriteError.Failed) self.old.write_faults self.new.write_faults }
-        ensures read_faults { self.new.read_faults ≡ self.old.read_faults }
-        ensures absents { self.new.shelf.absents ≡ self.old.shelf.absents }
-        ensures oversizes { self.new.shelf.oversizes ≡ self.old.shelf.oversizes }
+        ensures write_faults { Counts (IsErrOf result WriteError.Failed) (failed_writes self.old) (failed_writes self.new) }
+        ensures write_faults_once { AtMostOnce (failed_writes self.old) (failed_writes self.new) }
+        ensures read_faults { failed_reads self.new ≡ failed_reads self.old }
+        ensures absents { absent_reads self.new ≡ absent_reads self.old }
+        ensures oversizes { oversized_reads self.new ≡ oversized_reads self.old }
     {
         if self.turns.take() {
             self.write_faults = self.write_faults.saturating_add(1);

@@ -1,8 +1,8 @@
 //! A sink in memory, of which chosen writings fail.
 ghost use Rattle.std.specs.Prelude.{◌≡◌, ℕ, ◌+◌, ◌-◌, ◌^◌, ◌<◌, ◌≤◌, min, ◌++◌, [], List, length, take, Option, Some, OnOk, OnErr, IfOk, IsErrOf, IsTrue, ◌↔◌};
-ghost use Rattle.tester_io.specs.Outside.{WhereTold, Counts};
+ghost use Rattle.tester_io.specs.Outside.{WhereTold, Counts, AtMostOnce};
 ghost use Rattle.tester_io.specs.Memory.{is_to_fail};
-ghost use Rattle.tester_io.specs.InMemory.{written, writes_made, writes_to_fail, taken};
+ghost use Rattle.tester_io.specs.InMemory.{written, writes_made, writes_to_fail, sink_failures, taken};
 
 use crate::shelf::Turns;
 use crate::{Sink, WriteError};
@@ -38,7 +38,7 @@ impl MemSink {
         ensures written { written result ≡ [] }
         ensures calls { writes_made result ≡ 0 }
         ensures fails { writes_to_fail result ≡ fails }
-        ensures write_faults { ⟦<MemSink as Sink>⟧.write_faults result ≡ 0 }
+        ensures write_faults { sink_failures result ≡ 0 }
     {
         MemSink {
             bytes: Text8::new(alloc),
@@ -58,7 +58,7 @@ impl MemSink {
 impl Sink for MemSink {
     ghost told = { λ sink. Some (written sink) };
 
-    ghost write_faults = { λ sink. sink.write_faults };
+    ghost write_faults = { sink_failures };
 
     fn write(&mut self, piece: &[u8]) -> Result<usize, WriteError>
         ensures count { IfOk result (λ k. k ≡ taken piece.now) }
@@ -69,7 +69,8 @@ impl Sink for MemSink {
         ensures answer { IsErrOf result WriteError.Failed ↔ IsTrue (is_to_fail (writes_to_fail self.old) (writes_made self.old)) }
         ensures calls { writes_made self.new ≡ min (writes_made self.old + 1) (2 ^ 64 - 1) }
         ensures fails { writes_to_fail self.new ≡ writes_to_fail self.old }
-        ensures write_faults { Counts (IsErrOf result WriteError.Failed) self.old.write_faults self.new.write_faults }
+        ensures write_faults { Counts (IsErrOf result WriteError.Failed) (sink_failures self.old) (sink_failures self.new) }
+        ensures write_faults_once { AtMostOnce (sink_failures self.old) (sink_failures self.new) }
     {
         if self.turns.take() {
             self.write_faults = self.write_faults.saturating_add(1);

@@ -1,7 +1,7 @@
 //! Files in memory, and which calls are to fail.
 ghost use Rattle.std.specs.Prelude.{◌≡◌, ◌+◌, ◌-◌, ◌^◌, ◌<◌, min, [], ◌∷◌, ◌++◌, length, position, slice_set, Some, None, OnOk, OnErr, IsErrOf};
 ghost use Rattle.std.specs.Option.{option_copied};
-ghost use Rattle.tester_io.specs.Outside.{holding, empty, Counts};
+ghost use Rattle.tester_io.specs.Outside.{holding, empty, Counts, AtMostOnce};
 ghost use Rattle.tester_io.specs.Memory.{named, held_in, is_to_fail, reading, Gives};
 
 use crate::FileFault;
@@ -66,7 +66,12 @@ impl Shelf {
     pub fn find(&self, name: &[u8]) -> Option<&Text8>
         ensures { option_copied result ≡ held_in self.now.files name.now }
     {
-        match self.files.as_slice().iter().find(|file| file.name.as_slice() == name) {
+        match self
+            .files
+            .as_slice()
+            .iter()
+            .find(|file| file.name.as_slice() == name)
+        {
             Some(file) => Some(&file.bytes),
             None => None,
         }
@@ -92,6 +97,8 @@ impl Shelf {
         ensures files { self.new.files ≡ self.old.files }
         ensures absents { Counts (IsErrOf result FileFault.Absent) self.old.absents self.new.absents }
         ensures oversizes { Counts (IsErrOf result FileFault.TooLarge) self.old.oversizes self.new.oversizes }
+        ensures absents_once { AtMostOnce self.old.absents self.new.absents }
+        ensures oversizes_once { AtMostOnce self.old.oversizes self.new.oversizes }
     {
         let Some(bytes) = self.find(name) else {
             self.absents = self.absents.saturating_add(1);
@@ -122,6 +129,9 @@ impl Turns {
     {
         let call = self.calls;
         self.calls = call.saturating_add(1);
-        self.fails.as_slice().iter().any(|number| u64::from(*number) == call)
+        self.fails
+            .as_slice()
+            .iter()
+            .any(|number| u64::from(*number) == call)
     }
 }
