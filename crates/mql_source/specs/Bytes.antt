@@ -1,5 +1,6 @@
 -- The classes of bytes.
-use Rattle.std.specs.Prelude.{ℕ, Bool, not, ◌&&◌, ◌||◌, ◌==◌, nat_le}
+use Rattle.std.specs.Prelude.{ℕ, Bool, not, ◌&&◌, ◌||◌, ◌==◌, nat_le, nat_lt, List, length}
+use Rattle.std.specs.List.{prefix_len}
 
 -- the byte is one of these or stands between them
 abbrev pub is_between : (low high byte : ℕ) → Bool
@@ -16,3 +17,11 @@ is_word_byte byte = is_between 65 90 byte || is_between 97 122 byte || is_betwee
 -- a printable byte that neither ends a string nor begins an escape (own)
 unfoldable pub is_string_byte : ℕ → Bool
 is_string_byte byte = is_between 32 126 byte && not (byte == 34) && not (byte == 92)
+
+-- a byte of the ASCII characters
+unfoldable pub is_ascii : ℕ → Bool
+is_ascii byte = nat_lt byte 128
+
+-- the first bytes that are ASCII are all bytes
+abbrev pub all_ascii : List ℕ → Bool
+all_ascii text = prefix_len is_ascii text == length text

@@ -1,7 +1,8 @@
 -- The form of a source of the first level (MQL5 Reference, Language Basics; the limits are our own).
-use Rattle.std.specs.Prelude.{ℕ, nat_le, if◌then◌else◌, List, [], ◌∷◌, length, Option, Some, None, codes}
+use Rattle.std.specs.Prelude.{ℕ, ◌&&◌, nat_le, if◌then◌else◌, List, [], ◌∷◌, length, Option, Some, None, codes}
 use Rattle.mql_mean.specs.declared.tree.Checked.{Checked}
 use Rattle.mql_mean.specs.declared.tree.Statement.{Statement}
+use Rattle.mql_source.specs.Bytes.{all_ascii}
 use Rattle.mql_source.specs.Tokens.{tokens}
 use Rattle.mql_source.specs.Nesting.{nest_within}
 use Rattle.mql_source.specs.Grammar.{◌>>=◌, body_of}
@@ -16,7 +17,6 @@ unfoldable pub program_at : List Located → Option Checked
 program_at located =
     if nest_within 10 0 located then (body_of located >>= λ body. Some (program_of body)) else None
 
--- the program that a source of the first level is, of at most 4,096 bytes; each of its bytes is ASCII, since no
--- token has another
+-- the program that a source of the first level is: at most 4,096 bytes, all of them ASCII
 unfoldable pub checked_of : List ℕ → Option Checked
-checked_of bytes = if nat_le (length bytes) 4096 then (tokens bytes >>= program_at) else None
+checked_of bytes = if nat_le (length bytes) 4096 && all_ascii bytes then (tokens bytes >>= program_at) else None

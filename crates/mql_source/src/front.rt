@@ -1,7 +1,7 @@
 //! What stands at the front of a text.
 ghost use Rattle.std.specs.Prelude.{◌≡◌, ℕ, ◌+◌, ◌≤◌, ◌<◌, length, take, IfOk, codes};
 ghost use Rattle.std.specs.List.{prefix_len};
-ghost use Rattle.mql_source.specs.Bytes.{is_between, is_blank, is_word_byte, is_string_byte};
+ghost use Rattle.mql_source.specs.Bytes.{is_ascii, all_ascii, is_between, is_blank, is_word_byte, is_string_byte};
 ghost use Rattle.mql_source.specs.Tokens.{front, word_front, string_front, sign_front, Within};
 
 use crate::token::{Sign, Token};
@@ -73,6 +73,25 @@ fn string_length(text: &[u8]) -> usize
         }
     }
     text.len()
+}
+
+#[tactic(auto, unfolding(crate::specs::Bytes::is_ascii))]
+fn ascii_length(text: &[u8]) -> usize
+    ensures { result ≡ prefix_len is_ascii text.now }
+{
+    for (i, byte) in text.iter().enumerate() {
+        if *byte >= 128 {
+            return i;
+        }
+    }
+    text.len()
+}
+
+/// Whether each byte is one of the ASCII characters.
+pub fn all_ascii(text: &[u8]) -> bool
+    ensures { result ≡ all_ascii text.now }
+{
+    ascii_length(text) == text.len()
 }
 
 #[tactic(auto, unfolding(crate::specs::Tokens::word_front))]

@@ -2,7 +2,7 @@
 ghost use Rattle.std.specs.Prelude.{◌≡◌, IfOk};
 ghost use Rattle.mql_source.specs.Source.{checked_of, program_of};
 
-use crate::front::units;
+use crate::front::{all_ascii, units};
 use crate::grammar::read_body;
 use crate::scan::{nest_within, read_tokens};
 use fx8::{ItemList, OutOfMemory};
@@ -33,7 +33,7 @@ fn program_of(alloc: Global, body: ItemList<Statement>) -> Result<Checked, OutOf
 pub fn read_source(alloc: Global, bytes: &[u8]) -> Result<Option<Checked>, OutOfMemory>
     ensures { IfOk result (λ found. found ≡ checked_of bytes.now) }
 {
-    if bytes.len() > LONGEST {
+    if bytes.len() > LONGEST || !all_ascii(bytes) {
         return Ok(None);
     }
     let Some(tokens) = read_tokens(alloc, bytes)? else {
