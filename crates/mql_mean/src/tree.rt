@@ -22,6 +22,18 @@ impl Native {
     }
 }
 
+/// What calls a program: the tester's beginning and end, and the events that a program may handle.
+#[derive(Clone, Copy, Debug, PartialEq, Eq)]
+pub enum Entry {
+    Start,
+    Init,
+    Tick,
+    Trade,
+    Tester,
+    Deinit,
+    Stop,
+}
+
 /// An expression.
 #[derive(Drop)]
 pub enum Expression {

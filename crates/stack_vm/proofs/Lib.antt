@@ -1,0 +1,5 @@
+pub mod Taking
+pub mod Turns
+pub mod Falls
+pub mod Never
+pub mod Begins

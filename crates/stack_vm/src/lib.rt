@@ -1,0 +1,17 @@
+//! The machine that runs a program's code: operands on a stack, frames in a store, steps that are counted.
+#![tactic(auto)]
+
+mod code;
+mod effects;
+mod fault;
+mod frames;
+mod machine;
+mod operands;
+mod program;
+mod state;
+mod step;
+
+pub use code::{Code, Constant, Effect, Entries, FunctionCode, Instruction};
+pub use machine::{End, Machine};
+pub use mql_mean::Entry;
+pub use program::{Program, Valid};
