@@ -1,2 +1,4 @@
+pub mod Integers
 pub mod Lends
+pub mod Operators
 pub mod formers

@@ -16,10 +16,14 @@ use Rattle.mql_mean.specs.Answer.{Answer, Replied, Refused}
 abbrev pub native_number : Native → ℕ
 native_number Print = 49
 
--- a value that can be printed: a number, a double or a string (MQL5 Reference, Common Functions, Print)
+abbrev pub is_int : IntKind → Bool
+is_int kind.Int = true
+is_int _ = false
+
+-- a value that can be printed (MQL5 Reference, Common Functions, Print): of what is built so far an int or a string
 abbrev pub prints_at : Value-F Value → Bool
-prints_at (Value-F.Num k x) = true
-prints_at (Value-F.Dbl x) = true
+prints_at (Value-F.Num k x) = is_int k
+prints_at (Value-F.Dbl x) = false
 prints_at (Value-F.Str s) = true
 prints_at (Value-F.Ptr p) = false
 prints_at (Value-F.Arr vs) = false
@@ -37,10 +41,6 @@ abbrev pub takes : Native → List Value → Bool
 takes Print args = all_print args
 
 -- the number 0 of the kind int, which stands for the value of a void function (own)
-abbrev pub is_int : IntKind → Bool
-is_int kind.Int = true
-is_int _ = false
-
 abbrev pub is_zero : ℤ → Bool
 is_zero (pos zero) = true
 is_zero (pos (suc n)) = false

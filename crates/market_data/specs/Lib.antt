@@ -1,0 +1,2 @@
+pub mod BarsFile
+pub mod Quotes

@@ -1,0 +1,38 @@
+-- The quotes that bars give at opening prices (MetaTrader 5 Help, Strategy Tester: Open prices only; the times are our own).
+use Rattle.std.specs.Prelude.{ℕ, ◌-◌, ◌*◌, ◌^◌, Bool, true, false, List, [], ◌∷◌, ◌++◌, if◌then◌else◌, ℤ, pos, ◌+ℤ◌, ◌*ℤ◌, int_le}
+use Rattle.market_data.specs.declared.bar.Bar.{Bar}
+use Rattle.market_data.specs.declared.quote.Quote.{Quote}
+
+-- a point, the last decimal that the symbol's prices show, in units of 10^-8
+abbrev pub point : ℕ → ℕ
+point digits = 10 ^ (8 - digits)
+
+-- a quote so many seconds after its bar's opening: Bid is the price, and Ask is the bar's spread above it
+abbrev pub quote : ℕ → Bar → ℕ → ℤ → Bool → Quote
+quote digits bar seconds price loud = record {
+  symbol = 0;
+  time_ms = (bar.time +ℤ pos seconds) *ℤ pos 1000;
+  bid = price;
+  ask = price +ℤ pos (bar.spread * point digits);
+  last = pos 0;
+  volume = pos 0;
+  flags = 6;
+  loud = loud;
+}
+
+-- the bar closes at its opening price or above
+abbrev pub rises : Bar → Bool
+rises bar = int_le bar.o bar.c
+
+-- the four quotes of a bar: open, the two extremes, the nearer one to a rise or fall first, and close; only the first is loud
+abbrev pub quotes_of : ℕ → Bar → List Quote
+quotes_of digits bar =
+    quote digits bar 0 bar.o true
+    ∷ quote digits bar 20 (if rises bar then bar.l else bar.h) false
+    ∷ quote digits bar 40 (if rises bar then bar.h else bar.l) false
+    ∷ quote digits bar 59 bar.c false ∷ []
+
+-- the quotes of bars in turn
+unfoldable pub opening_quotes : ℕ → List Bar → List Quote
+opening_quotes digits [] = []
+opening_quotes digits (bar ∷ bars) = quotes_of digits bar ++ opening_quotes digits bars

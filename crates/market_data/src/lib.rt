@@ -1,0 +1,10 @@
+//! Price files and the quotes that they give.
+#![tactic(auto)]
+
+mod bar;
+mod quote;
+mod row_fault;
+
+pub use bar::{Bar, BarList};
+pub use quote::{Quote, QuoteList};
+pub use row_fault::RowFault;

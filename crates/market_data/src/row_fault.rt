@@ -1,0 +1,36 @@
+//! Why the rows of a price file could not be read.
+
+ghost use Rattle.std.specs.Prelude.{◌≡◌};
+
+use fx8::OutOfMemory;
+use std::fmt;
+
+/// Why the rows of a price file could not be read.
+#[derive(Clone, Copy, Debug, PartialEq, Eq)]
+pub enum RowFault {
+    /// The first row that breaks a rule, with that rule. Row 0 and rule 10 stand for a text that has not the form.
+    Rule { row: u32, rule: u8 },
+    /// There was no memory for the rows.
+    OutOfMemory,
+}
+
+impl fmt::Display for RowFault {
+    fn fmt<W: fmt::Write>(&self, f: &mut fmt::Formatter<W>) -> fmt::Result {
+        match self {
+            RowFault::Rule { row, rule } => write!(f, "row {row} breaks rule {rule}"),
+            RowFault::OutOfMemory => write!(f, "out of memory"),
+        }
+    }
+}
+
+impl std::error::Error for RowFault {}
+
+impl From<OutOfMemory> for RowFault {
+    ghost use Rattle.market_data.specs.declared.row_fault.RowFault.TheVariants as fault;
+
+    ghost from_gives = { λ _ fault_given. fault_given ≡ fault.OutOfMemory };
+
+    fn from(_error: OutOfMemory) -> RowFault {
+        RowFault::OutOfMemory
+    }
+}

@@ -1,0 +1,6 @@
+pub mod Bytes
+pub mod Grammar
+pub mod Nesting
+pub mod Signs
+pub mod Source
+pub mod Tokens

@@ -1,0 +1,3 @@
+pub mod TimeLemmas
+pub mod ReportLemmas
+pub mod PlanLemmas

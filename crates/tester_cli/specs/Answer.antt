@@ -1,0 +1,41 @@
+-- The answer of a run: what a command does, as readings in turn and then an end. Own.
+use Rattle.std.specs.Prelude.{◌≡◌, ◌⊎◌, ℕ, Bool, true, false, nat_lt, List, [], ◌∷◌, ◌++◌, length, take, Option, Some, None}
+use Rattle.std.specs.Bool.{MatchBool}
+use Rattle.tester_io.specs.Outside.{Contents, WhereTold, Rose}
+use Rattle.tester_cli.specs.declared.status.Status.{Status}
+use Rattle.tester_cli.specs.declared.status.Status.TheVariants.{Done, Usage, Source, Settings, Prices, CodeFile, Grid, Absent, ReadFault, WriteFault, TooLarge, OutOfMemory}
+
+-- how a run may end that finds these contents: its status, what the sink gains, and the contents after it
+abbrev pub Ending : Type 1
+Ending = Contents → Status → List ℕ → Contents → Type 0
+
+-- a refusal: this status, nothing written, no file changed
+abbrev pub refusal : Status → Ending
+refusal status held s text after = (s ≡ status) × (text ≡ []) × (after ≡ held)
+
+-- what a command does: it asks for a file by its name, with the most bytes that it takes, and goes on with what the
+-- file holds; or it ends
+pub data Plan : Type 1 where
+  Reads : (name : List ℕ) (limit : ℕ) (next : List ℕ → Plan) → Plan
+  Ends : (ending : Contents → Status → List ℕ → Contents → Type 0) → Plan
+
+-- what follows a reading: a name that is not held and a file over the limit are refused
+abbrev pub AfterReading : List ℕ → ℕ → (List ℕ → Ending) → Option (List ℕ) → Ending
+AfterReading name limit next None held s text after = refusal (Absent name) held s text after
+AfterReading name limit next (Some bytes) held s text after =
+    MatchBool (nat_lt limit (length bytes)) (refusal (TooLarge name) held s text after) (next bytes held s text after)
+
+-- the ends that a plan has over these contents
+abbrev pub Gives : Plan → Ending
+Gives (Reads name limit next) held s text after = AfterReading name limit (λ bytes. Gives (next bytes)) (held name) held s text after
+Gives (Ends ending) held s text after = ending held s text after
+
+-- the plan comes to the reading of that name, with no refusal before it
+abbrev pub ReachesAfter : ℕ → (List ℕ → Type 0) → Option (List ℕ) → Type 0
+ReachesAfter limit next None = ⊥
+ReachesAfter limit next (Some bytes) = MatchBool (nat_lt limit (length bytes)) ⊥ (next bytes)
+
+abbrev pub Reaches : Plan → List ℕ → Contents → Type 0
+Reaches (Reads name limit next) wanted held =
+    (name ≡ wanted) ⊎ ReachesAfter limit (λ bytes. Reaches (next bytes) wanted held) (held name)
+Reaches (Ends ending) wanted held = ⊥
