@@ -16,6 +16,7 @@ use Rattle.mql_mean.specs.Answer.{Answer, Replied, Refused}
 abbrev pub native_number : Native → ℕ
 native_number Print = 49
 
+-- the kind int
 abbrev pub is_int : IntKind → Bool
 is_int kind.Int = true
 is_int _ = false

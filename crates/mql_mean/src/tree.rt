@@ -4,7 +4,7 @@ ghost use Rattle.mql_mean.specs.Natives.{native_number, native_void, takes};
 ghost use Rattle.mql_mean.specs.Types.{is_void};
 
 use crate::value::{ValueList, all_print};
-use fx8::{ItemList, Text};
+use fx8::{IntKind, IntOperator, ItemList, Text};
 
 /// A native function.
 #[derive(Clone, Copy, Debug, PartialEq, Eq)]
@@ -54,11 +54,31 @@ pub enum Entry {
     Stop,
 }
 
+/// An operator on one number.
+#[derive(Clone, Copy, Debug, PartialEq, Eq)]
+pub enum UnaryOperator {
+    /// The number's negative.
+    Minus,
+}
+
+/// An operator on numbers.
+#[derive(Clone, Copy, Debug, PartialEq, Eq)]
+pub enum Operator {
+    Unary(UnaryOperator),
+    Binary(IntOperator),
+}
+
 /// An expression.
 #[derive(Drop)]
 pub enum Expression {
     /// A string literal.
     Text(Text),
+    /// A number of a kind. The truth values are the numbers 1 and 0 of `Bool`.
+    Number(IntKind, i128),
+    /// The value of the local of this number.
+    Local(u32),
+    /// An operator on operands that are taken into a kind.
+    Apply(Operator, IntKind, ItemList<Expression>),
     /// A call of a native function with its arguments.
     Native(Native, ItemList<Expression>),
 }
@@ -69,7 +89,10 @@ impl Expression {
         ensures { result ≡ is_void self.now }
     {
         match self {
-            Expression::Text(_) => false,
+            Expression::Text(_)
+            | Expression::Number(_, _)
+            | Expression::Local(_)
+            | Expression::Apply(_, _, _) => false,
             Expression::Native(native, _) => native.is_void(),
         }
     }
@@ -82,12 +105,20 @@ pub enum Statement {
     Block(u32, ItemList<Statement>),
     /// An expression whose value is let go.
     Evaluate(u32, Expression),
+    /// Gives the local of this number the value of an expression, as an assignment and a declaration do.
+    Assign(u32, u32, Expression),
+    /// A statement that is gone through where the condition holds.
+    If(u32, Expression, Box<Statement>),
+    /// A statement that is gone through as long as the condition holds.
+    While(u32, Expression, Box<Statement>),
 }
 
 /// A function.
 #[derive(Drop)]
 pub struct Function {
     pub name: Text,
+    /// The kinds of its locals, by number. They begin as zero.
+    pub locals: ItemList<IntKind>,
     pub body: ItemList<Statement>,
 }
 

@@ -116,8 +116,11 @@ impl Machine {
         let Some(function) = code.entries.at(entry) else {
             unreachable!()
         };
+        let Some(called) = code.functions.at(function as u64) else {
+            unreachable!()
+        };
         self.state.operands.clear();
-        match enter(self.alloc, &mut self.state.store) {
+        match enter(self.alloc, called.locals.as_slice(), &mut self.state.store) {
             Ok(()) => {}
             Err(Fault::End(e)) => return Ok(e),
             Err(Fault::Stuck) => unreachable!(),
