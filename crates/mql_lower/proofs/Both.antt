@@ -20,10 +20,11 @@ use Rattle.stack_vm.specs.Machine as m
 use Rattle.stack_vm.specs.Machine.{On, Halt, land, iter, advance, Comes, then_some, starts, starts_at, entry_of, begins}
 use Rattle.stack_vm.specs.Steps.{as_ended, over, Ends}
 use Rattle.stack_vm.specs.Valid.{is_some, has_entry}
-use Rattle.mql_lower.specs.Stands.{HasOwn, HoldsIn, CodeFor, EachFor}
+use Rattle.mql_lower.specs.Stands.{HasOwn, HoldsIn, LabelOwn, CodeFor, EachFor}
+use Rattle.stack_vm.specs.declared.code.Label.{Label}
 use Rattle.mql_lower.specs.Draft.{all_functions, Compiled}
 use Rattle.mql_lower.specs.Follows.{Gives, Follows, Told}
-use Rattle.mql_lower.proofs.Sim.{HasIn, function_comes}
+use Rattle.mql_lower.proofs.Sim.{HasIn, LabelIn, function_comes}
 use Rattle.mql_lower.proofs.Sound.{Pairs, pairs, all_typed}
 use Rattle.mql_lower.proofs.Whole.{function_map}
 
@@ -50,7 +51,7 @@ of_result code x (End e n w) c = c
 
 -- the code of a function that is there
 abbrev Found : Code → List FunctionCode → Function → ℕ → Type 0
-Found code cs f k = (c : FunctionCode) × (slice_get cs k ≡ Some c) × CodeFor code f c × TypedBody f.body
+Found code cs f k = (c : FunctionCode) × (slice_get cs k ≡ Some c) × CodeFor code f c × TypedBody f.locals f.body
 
 found : (code : Code) (fs : List Function) (cs : List FunctionCode) (k : ℕ) (f : Function) → EachFor code fs cs → TypedFunctions fs → slice_get fs k ≡ Some f → Found code cs f k
 found code [] [] k f h t e = absurd (subst (λ (o : Option Function). elim o as (λ _. Type 0) [ None ↦ Unit {0} | Some x ↦ ⊥ ]) e (tt {0}))
@@ -64,8 +65,8 @@ module _ (checked : Checked) (code : Code) (t : Types checked) (h : Compiled che
   function_runs : (k : ℕ) (f : Function) (n : ℕ) (w : World) → slice_get (all_functions checked) k ≡ Some f → Comes code (starts_at code (Some k) n w) (land (calls n (Some f) n w) (λ v n w. Halt (Returned v) n w))
   function_runs k f n w e =
       let c = found code (all_functions checked) code.functions k f h.each (all_typed checked t) e in
-      let at = function_map (HasOwn c.0) (HasIn code k) (HoldsIn code) (HoldsIn code) (λ pc i g. ap (λ o. then_some o (λ c. slice_get c.instructions pc)) c.1 ∙ g) (λ j v g. g) f 0 (length c.0.instructions) c.2.is in
-      subst (λ o. Comes code (starts o k n w) (land (calls n (Some f) n w) (λ v n w. Halt (Returned v) n w))) (sym c.1) (function_comes code k f (length c.0.instructions) n w c.3 at)
+      let at = function_map (HasOwn c.0) (HasIn code k) (HoldsIn code) (HoldsIn code) (LabelOwn c.0) (LabelIn code k) (λ pc i g. ap (λ o. then_some o (λ c. slice_get c.instructions pc)) c.1 ∙ g) (λ j v g. g) (λ l pc g. ap (λ o. then_some o (λ c. then_some (slice_get c.labels l) (λ l. Some l.place))) c.1 ∙ ap (λ o. then_some o (λ (l : Label). Some l.place)) g) f 0 (length c.0.instructions) c.2.is in
+      subst (λ o. Comes code (starts o k n w) (land (calls n (Some f) n w) (λ v n w. Halt (Returned v) n w))) (sym c.1) (function_comes code k f c.0.locals (length c.0.instructions) n w c.2.locals c.3 at)
 
   entry_runs : (o : Option ℕ) (q : Option Function) (n : ℕ) (w : World) → Pairs checked o q → Comes code (starts_at code o n w) (land (calls n q n w) (λ v n w. Halt (Returned v) n w))
   entry_runs None q n w p = subst (λ q. Comes code (starts_at code None n w) (land (calls n q n w) (λ v n w. Halt (Returned v) n w))) (sym p) (record { instructions = 0; is = refl })

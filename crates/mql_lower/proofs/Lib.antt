@@ -1,4 +1,5 @@
 pub mod Emits
+pub mod Labels
 pub mod Whole
 pub mod Sim
 pub mod Sound

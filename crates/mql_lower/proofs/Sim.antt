@@ -2,30 +2,33 @@
 use Rattle.std.proofs.Common.{◌≡◌, ℕ, ℤ, zero, suc, ◌+◌, ◌<◌, ◌≤◌, Bool, true, false, List, [], ◌∷◌, ◌++◌, length, Option, Some, None, refl, sym, ap, ◌∙◌, subst, arith, append-nil}
 use Rattle.std.specs.Prelude.{slice_get}
 use Rattle.mql_mean.specs.declared.value.Value.{Value}
-use Rattle.mql_mean.specs.declared.value.Value.TheVariants.{Str}
+use Rattle.mql_mean.specs.declared.value.Value.TheVariants.{Num, Str}
 use Rattle.mql_mean.specs.declared.host.HostCall.{HostCall}
 use Rattle.mql_mean.specs.declared.host.Reply.{Reply}
 use Rattle.mql_mean.specs.declared.tree.Native.{Native}
-use Rattle.mql_mean.specs.declared.tree.Expression.{Expression, Text, Native', Row_of-Expression, end_of-Expression, more_of-Expression}
-use Rattle.mql_mean.specs.declared.tree.Statement.{Statement, Empty, Block', Evaluate, Row_of-Statement, end_of-Statement, more_of-Statement}
+use Rattle.mql_mean.specs.declared.tree.Expression.{Expression, Text, Number, Local, Apply', Native', Row_of-Expression, end_of-Expression, more_of-Expression}
+use Rattle.mql_mean.specs.declared.tree.Statement.{Statement, Empty, Block', Evaluate, Assign, If', While', Row_of-Statement, end_of-Statement, more_of-Statement}
 use Rattle.mql_mean.specs.declared.tree.Function.{Function}
 use Rattle.mql_mean.specs.Answer.{Answer, Replied, Refused}
 use Rattle.mql_mean.specs.Natives.{takes, gives, native_void}
 use Rattle.mql_mean.specs.Ask.{call_of, replied, answered, asked, ask}
 use Rattle.mql_mean.specs.World.{Ended, Returned, World, Out, Ok', Bad, Res, Go, End, Act, bind, lift, map_out, spend}
-use Rattle.mql_mean.specs.Store.{enter, leave, set_line}
-use Rattle.mql_mean.specs.Means.{void_value, value_of, values_of, does, does_row, does_all, returns, calls}
-use Rattle.mql_mean.specs.Types.{is_void, Typed, TypedRow, TypedStatement, TypedStatements, TypedBody}
+use Rattle.mql_mean.specs.Store.{with_some, enter, leave, set_line, read, write}
+use Rattle.mql_mean.specs.Apply.{arity, apply, truth_of, truth, result_kind}
+use Rattle.fx8.specs.declared.int_kind.IntKind.{IntKind}
+use Rattle.mql_mean.specs.declared.tree.Operator.{Operator}
+use Rattle.mql_mean.specs.Means.{void_value, choose, turns, value_of, values_of, does, does_row, does_all, returns, calls}
+use Rattle.mql_mean.specs.Types.{Is, is_void, count, kind_of, Prints, Typed, TypedNumbers, TypedRow, TypedStatement, TypedStatements, TypedBody}
 use Rattle.stack_vm.specs.declared.code.Code.{Code}
 use Rattle.stack_vm.specs.declared.code.FunctionCode.{FunctionCode}
 use Rattle.stack_vm.specs.declared.code.Instruction.{Instruction}
 use Rattle.stack_vm.specs.declared.code.Instruction.TheVariants as op
 use Rattle.stack_vm.specs.declared.code.Effect.TheVariants as ef
 use Rattle.stack_vm.specs.declared.state.Operand.{Operand}
-use Rattle.stack_vm.specs.declared.state.Operand.TheVariants.{Value as Val}
+use Rattle.stack_vm.specs.declared.state.Operand.TheVariants.{Value as Val, Place as At}
 use Rattle.stack_vm.specs.Machine as m
-use Rattle.stack_vm.specs.Machine.{On, Halt, land, Taken, beside, take_values, effect, give, constant_of, native_on, fetch, act, advance, iter, Comes, starts}
-use Rattle.mql_lower.specs.Stands.{◌▷◌, Nothing, count, One, Constant, ExpressionAt, RowAt, LetGo, StatementAt, StatementsAt, BodyAt, FunctionAt, HoldsIn}
+use Rattle.stack_vm.specs.Machine.{On, Halt, land, Taken, beside, take_values, effect, give, with_value, goes, branch, label_at, constant_of, native_on, fetch, act, advance, iter, Comes, starts}
+use Rattle.mql_lower.specs.Stands.{◌▷◌, WithLabel, Nothing, Here, One, Constant, ExpressionAt, RowAt, LetGo, StatementAt, StatementsAt, BodyAt, FunctionAt, HoldsIn}
 
 -- steps do not grow past a bound
 abbrev Within : {A : Type 0} → ℕ → Res A → Type 0
@@ -80,6 +83,10 @@ module _ (code : Code) where
   land_map n w g (Ok' a store) f = refl
   land_map n w g (Bad e) f = refl
 
+  choose_runs : {A : Type 0} (b : ℕ) (t : Bool) (x y : m.Next) (p q : Act A) (n : ℕ) (w : World) (f : A → ℕ → World → m.Next) → Runs b x (p n w) f → Runs b y (q n w) f → Runs b (branch t x y) (choose t p q n w) f
+  choose_runs b true x y p q n w f r s = r
+  choose_runs b false x y p q n w f r s = s
+
   -- what a predicate says of a value, if there is one
   abbrev IfGo : {A : Type 0} → (A → Type 0) → Res A → Type 0
   IfGo P (Go a n w) = P a
@@ -115,20 +122,23 @@ module _ (code : Code) where
     abbrev HoldsHere : ℕ → Value → Type 0
     HoldsHere = HoldsIn code
 
-    one : (i : Instruction) (pc pc' : ℕ) (ops : List Operand) (n : ℕ) (w : World) → One HasIn HoldsHere i pc pc' → advance code (On fn pc ops n w) ≡ act code (Some i) fn pc ops n w
+    abbrev pub LabelIn : ℕ → ℕ → Type 0
+    LabelIn label pc = label_at code fn label ≡ Some pc
+
+    one : (i : Instruction) (pc pc' : ℕ) (ops : List Operand) (n : ℕ) (w : World) → One HasIn HoldsHere LabelIn i pc pc' → advance code (On fn pc ops n w) ≡ act code (Some i) fn pc ops n w
     one i pc pc' ops n w at = ap (λ o. act code o fn pc ops n w) at.at
 
     -- an instruction that is a primitive
-    one_runs : {A : Type 0} (b : ℕ) (i : Instruction) (pc pc' : ℕ) (o : Out A) (g : A → List Operand) (ops : List Operand) (n : ℕ) (w : World) → One HasIn HoldsHere i pc pc' → n ≤ b → act code (Some i) fn pc ops n w ≡ land (lift (map_out g o) n w) (λ ops n w. On fn (pc + 1) ops n w) → Runs b (On fn pc ops n w) (lift o n w) (λ a n w. On fn pc' (g a) n w)
+    one_runs : {A : Type 0} (b : ℕ) (i : Instruction) (pc pc' : ℕ) (o : Out A) (g : A → List Operand) (ops : List Operand) (n : ℕ) (w : World) → One HasIn HoldsHere LabelIn i pc pc' → n ≤ b → act code (Some i) fn pc ops n w ≡ land (lift (map_out g o) n w) (λ ops n w. On fn (pc + 1) ops n w) → Runs b (On fn pc ops n w) (lift o n w) (λ a n w. On fn pc' (g a) n w)
     one_runs b i pc pc' o g ops n w at le e = record {
       comes = goes_on _ _ (one i pc pc' ops n w at ∙ e ∙ land_map n w g o _ ∙ ap (λ p. land (lift o n w) (λ a n w. On fn p (g a) n w)) at.next);
       within = lift_within b n w o le;
     }
 
     -- a constant
-    constant_runs : (b pc pc' : ℕ) (v : Value) (ops : List Operand) (n : ℕ) (w : World) → Constant HasIn HoldsHere v pc pc' → n ≤ b → Runs b (On fn pc ops n w) (Go v n w) (λ v n w. On fn pc' (Val v ∷ ops) n w)
+    constant_runs : (b pc pc' : ℕ) (v : Value) (ops : List Operand) (n : ℕ) (w : World) → Constant HasIn HoldsHere LabelIn v pc pc' → n ≤ b → Runs b (On fn pc ops n w) (Go v n w) (λ v n w. On fn pc' (Val v ∷ ops) n w)
     constant_runs b pc pc' v ops n w at le = one_runs b (op.Plain (ef.Const at.number)) pc pc' (Ok' v w.store) (λ v. Val v ∷ ops) ops n w at.one le
-        (ap (λ o. land (lift (Rattle.mql_mean.specs.Store.with_some o (λ v. Ok' (Val v ∷ ops) w.store)) n w) (λ ops n w. On fn (pc + 1) ops n w)) at.holds)
+        (ap (λ o. land (lift (with_some o (λ v. Ok' (Val v ∷ ops) w.store)) n w) (λ ops n w. On fn (pc + 1) ops n w)) at.holds)
 
     replied_within : (b : ℕ) (t : Bool) (reply : Reply) (c : HostCall) (answers : List Answer) (n : ℕ) (w : World) → n ≤ b → Within b (replied t reply c answers n w)
     replied_within b true reply c answers n w le = le
@@ -144,11 +154,36 @@ module _ (code : Code) where
     asked_within b false native args n w le = tt
 
     -- a call of a native function
-    native_runs : (b : ℕ) (native : Native) (k pc pc' : ℕ) (vs : List Value) (ops : List Operand) (n : ℕ) (w : World) → One HasIn HoldsHere (op.Native native k) pc pc' → length vs ≡ k → n ≤ b → Runs b (On fn pc (push vs ops) n w) (ask native vs n w) (λ v n w. On fn pc' (give (native_void native) v ops) n w)
+    native_runs : (b : ℕ) (native : Native) (k pc pc' : ℕ) (vs : List Value) (ops : List Operand) (n : ℕ) (w : World) → One HasIn HoldsHere LabelIn (op.Native native k) pc pc' → length vs ≡ k → n ≤ b → Runs b (On fn pc (push vs ops) n w) (ask native vs n w) (λ v n w. On fn pc' (give (native_void native) v ops) n w)
     native_runs b native k pc pc' vs ops n w at e le = record {
       comes = goes_on _ _ (one (op.Native native k) pc pc' (push vs ops) n w at ∙ ap (λ o. native_on native o n w (λ ops n w. On fn (pc + 1) ops n w)) (taken vs k ops e) ∙ ap (λ p. land (ask native vs n w) (λ v n w. On fn p (give (native_void native) v ops) n w)) at.next);
       within = asked_within b (takes native vs) native vs n w le;
     }
+
+    jump_comes : (l pc pc' to : ℕ) (ops : List Operand) (n : ℕ) (w : World) → One HasIn HoldsHere LabelIn (op.Jump l) pc pc' → label_at code fn l ≡ Some to → Comes code (On fn pc ops n w) (On fn to ops n w)
+    jump_comes l pc pc' to ops n w at e = goes_on _ _ (one (op.Jump l) pc pc' ops n w at ∙ ap (λ o. goes o fn ops n w) e)
+
+    -- a test and what it decides
+    unless_runs : {A : Type 0} (b l pc pc' to : ℕ) (v : Value) (ops : List Operand) (n : ℕ) (w : World) (p q : Act A) (f : A → ℕ → World → m.Next) → One HasIn HoldsHere LabelIn (op.Unless l) pc pc' → label_at code fn l ≡ Some to → n ≤ b → ((n : ℕ) (w : World) → n ≤ b → Runs b (On fn pc' ops n w) (p n w) f) → ((n : ℕ) (w : World) → n ≤ b → Runs b (On fn to ops n w) (q n w) f) → Runs b (On fn pc (Val v ∷ ops) n w) (bind (lift (truth v w.store) n w) (λ t. choose t p q)) f
+    unless_runs b l pc pc' to v ops n w p q f at e le r s =
+        then_runs b _ (lift (truth v w.store) n w) (λ t n w. branch t (On fn pc' ops n w) (On fn to ops n w)) (λ t. choose t p q) f
+        record {
+          comes = goes_on _ _ (one (op.Unless l) pc pc' (Val v ∷ ops) n w at ∙ land_map n w (λ b. m.beside b ops) (truth v w.store) _ ∙ ap (λ o. land (lift (truth v w.store) n w) (λ t n w. branch t (On fn (pc + 1) ops n w) (goes o fn ops n w))) e ∙ ap (λ p. land (lift (truth v w.store) n w) (λ t n w. branch t (On fn p ops n w) (On fn to ops n w))) at.next);
+          within = lift_within b n w (truth v w.store) le;
+        }
+        (λ t n w le. choose_runs b t _ _ p q n w f (r n w le) (s n w le))
+
+    -- an operator
+    apply_runs : (b : ℕ) (o : Operator) (k : IntKind) (pc pc' : ℕ) (vs : List Value) (ops : List Operand) (n : ℕ) (w : World) → One HasIn HoldsHere LabelIn (op.Plain (ef.Apply o k)) pc pc' → length vs ≡ arity o → n ≤ b → Runs b (On fn pc (push vs ops) n w) (lift (apply o k vs w.store) n w) (λ v n w. On fn pc' (Val v ∷ ops) n w)
+    apply_runs b o k pc pc' vs ops n w at e le =
+        one_runs b (op.Plain (ef.Apply o k)) pc pc' (apply o k vs w.store) (with_value ops) (push vs ops) n w at le
+        (ap (λ t. land (lift (with_some t (λ vs. map_out (with_value vs.rest) (apply o k vs.it w.store))) n w) (λ ops n w. On fn (pc + 1) ops n w)) (taken vs (arity o) ops e))
+
+    -- the value of a local
+    local_runs : (b local pc mid pc' : ℕ) (ops : List Operand) (n : ℕ) (w : World) → One HasIn HoldsHere LabelIn (op.Plain (ef.Local local)) pc mid → One HasIn HoldsHere LabelIn (op.Plain ef.Read) mid pc' → n ≤ b → Runs b (On fn pc ops n w) (lift (read local w.store) n w) (λ v n w. On fn pc' (Val v ∷ ops) n w)
+    local_runs b local pc mid pc' ops n w at at' le =
+        from_runs b _ _ _ _ (goes_on _ _ (one (op.Plain (ef.Local local)) pc mid ops n w at ∙ ap (λ p. On fn p (At local ∷ ops) n w) at.next))
+        (one_runs b (op.Plain ef.Read) mid pc' (read local w.store) (with_value ops) (At local ∷ ops) n w at' le refl)
 
     row_count : {m : _} (es : Row_of-Expression m) (n : ℕ) (w : World) → IfGo (λ vs. length vs ≡ count es) (values_of es n w)
     row_count end_of-Expression n w = refl
@@ -159,64 +194,138 @@ module _ (code : Code) where
         more v (Go vs n w) h = ap suc h
         more v (End e n w) h = tt
 
-    mutual
-      expression_runs : (e : Expression) (pc pc' : ℕ) (ops : List Operand) (b n : ℕ) (w : World) → Typed e → ExpressionAt HasIn HoldsHere e pc pc' → n ≤ b → Runs b (On fn pc ops n w) (value_of e n w) (λ v n w. On fn pc' (give (is_void e) v ops) n w)
-      expression_runs (Text s) pc pc' ops b n w t at le = constant_runs b pc pc' (Str s) ops n w at le
-      expression_runs (Native' native row args) pc pc' ops b n w t at le =
-          then_runs_if (λ vs. length vs ≡ count args) b _ _ _ _ _ (row_count args n w) (row_runs args pc at.mid ops b n w t at.fst le)
-          λ vs n w e le. native_runs b native (count args) at.mid pc' vs ops n w at.snd e le
+    module _ (locals : List IntKind) where
+      -- a row of expressions that are values
+      abbrev Values : {m : _} → Row_of-Expression m → Type 0
+      Values end_of-Expression = Unit {0}
+      Values (more_of-Expression e es) = (is_void e ≡ false) × Typed locals e × Values es
 
-      row_runs : {m : _} (es : Row_of-Expression m) (pc pc' : ℕ) (ops : List Operand) (b n : ℕ) (w : World) → TypedRow es → RowAt HasIn HoldsHere es pc pc' → n ≤ b → Runs b (On fn pc ops n w) (values_of es n w) (λ vs n w. On fn pc' (push vs ops) n w)
-      row_runs end_of-Expression pc pc' ops b n w t at le = done_runs b _ [] n w _ le (stays _ _ (ap (λ p. On fn p ops n w) at))
-      row_runs (more_of-Expression e es) pc pc' ops b n w t at le =
-          then_runs b _ _ _ _ _ (subst (λ v'. Runs b (On fn pc ops n w) (value_of e n w) (λ v n w. On fn at.mid (give v' v ops) n w)) t.0 (expression_runs e pc at.mid ops b n w t.1 at.fst le))
-          λ v n w le. then_runs b _ _ _ _ _ (row_runs es at.mid pc' (Val v ∷ ops) b n w t.2 at.snd le)
-          λ vs n w le. done_runs b _ (v ∷ vs) n w _ le (stays _ _ refl)
+      number_value : (e : Expression) → Is (kind_of locals e) → is_void e ≡ false
+      number_value (Text s) k = refl
+      number_value (Number k x) i = refl
+      number_value (Local local) k = refl
+      number_value (Apply' o k row args) i = refl
+      number_value (Native' native row args) k = absurd k
 
-    line_runs : (b line pc pc' : ℕ) (ops : List Operand) (n : ℕ) (w : World) → One HasIn HoldsHere (op.Plain (ef.Line line)) pc pc' → n ≤ b → Runs b (On fn pc ops n w) (lift (set_line line w.store) n w) (λ _ n w. On fn pc' ops n w)
+      prints_value : (e : Expression) → Prints locals e → is_void e ≡ false
+      prints_value (Text s) k = refl
+      prints_value (Number k x) i = refl
+      prints_value (Local local) k = refl
+      prints_value (Apply' o k row args) i = refl
+      prints_value (Native' native row args) k = absurd k
+
+      of_numbers : {m : _} (es : Row_of-Expression m) → TypedNumbers locals es → Values es
+      of_numbers end_of-Expression t = tt
+      of_numbers (more_of-Expression e es) t = (number_value e t.0, t.1, of_numbers es t.2)
+
+      of_prints : {m : _} (es : Row_of-Expression m) → TypedRow locals es → Values es
+      of_prints end_of-Expression t = tt
+      of_prints (more_of-Expression e es) t = (prints_value e t.0, t.1, of_prints es t.2)
+
+      mutual
+        expression_runs : (e : Expression) (pc pc' : ℕ) (ops : List Operand) (b n : ℕ) (w : World) → Typed locals e → ExpressionAt HasIn HoldsHere LabelIn e pc pc' → n ≤ b → Runs b (On fn pc ops n w) (value_of e n w) (λ v n w. On fn pc' (give (is_void e) v ops) n w)
+        expression_runs (Text s) pc pc' ops b n w t at le = constant_runs b pc pc' (Str s) ops n w at le
+        expression_runs (Number k x) pc pc' ops b n w t at le = constant_runs b pc pc' (Num k x) ops n w at le
+        expression_runs (Local local) pc pc' ops b n w t at le = local_runs b local pc at.mid pc' ops n w at.fst at.snd le
+        expression_runs (Apply' o k row args) pc pc' ops b n w t at le =
+            then_runs_if (λ vs. length vs ≡ count args) b _ _ _ _ _ (row_count args n w) (row_runs args pc at.mid ops b n w (of_numbers args t.1) at.fst le)
+            λ vs n w e le. apply_runs b o k at.mid pc' vs ops n w at.snd (e ∙ t.0) le
+        expression_runs (Native' native row args) pc pc' ops b n w t at le =
+            then_runs_if (λ vs. length vs ≡ count args) b _ _ _ _ _ (row_count args n w) (row_runs args pc at.mid ops b n w (of_prints args t) at.fst le)
+            λ vs n w e le. native_runs b native (count args) at.mid pc' vs ops n w at.snd e le
+
+        row_runs : {m : _} (es : Row_of-Expression m) (pc pc' : ℕ) (ops : List Operand) (b n : ℕ) (w : World) → Values es → RowAt HasIn HoldsHere LabelIn es pc pc' → n ≤ b → Runs b (On fn pc ops n w) (values_of es n w) (λ vs n w. On fn pc' (push vs ops) n w)
+        row_runs end_of-Expression pc pc' ops b n w t at le = done_runs b _ [] n w _ le (stays _ _ (ap (λ p. On fn p ops n w) at))
+        row_runs (more_of-Expression e es) pc pc' ops b n w t at le =
+            then_runs b _ _ _ _ _ (subst (λ v'. Runs b (On fn pc ops n w) (value_of e n w) (λ v n w. On fn at.mid (give v' v ops) n w)) t.0 (expression_runs e pc at.mid ops b n w t.1 at.fst le))
+            λ v n w le. then_runs b _ _ _ _ _ (row_runs es at.mid pc' (Val v ∷ ops) b n w t.2 at.snd le)
+            λ vs n w le. done_runs b _ (v ∷ vs) n w _ le (stays _ _ refl)
+
+      -- an expression that is a value
+      value_runs : (e : Expression) (pc pc' : ℕ) (ops : List Operand) (b n : ℕ) (w : World) → is_void e ≡ false → Typed locals e → ExpressionAt HasIn HoldsHere LabelIn e pc pc' → n ≤ b → Runs b (On fn pc ops n w) (value_of e n w) (λ v n w. On fn pc' (Val v ∷ ops) n w)
+      value_runs e pc pc' ops b n w v t at le = subst (λ v'. Runs b (On fn pc ops n w) (value_of e n w) (λ v n w. On fn pc' (give v' v ops) n w)) v (expression_runs e pc pc' ops b n w t at le)
+
+    line_runs : (b line pc pc' : ℕ) (ops : List Operand) (n : ℕ) (w : World) → One HasIn HoldsHere LabelIn (op.Plain (ef.Line line)) pc pc' → n ≤ b → Runs b (On fn pc ops n w) (lift (set_line line w.store) n w) (λ _ n w. On fn pc' ops n w)
     line_runs b line pc pc' ops n w at le = one_runs b (op.Plain (ef.Line line)) pc pc' (set_line line w.store) (λ _. ops) ops n w at le refl
 
-    go_runs : (b : ℕ) (t : Bool) (pc pc' : ℕ) (v : Value) (ops : List Operand) (n : ℕ) (w : World) → LetGo HasIn HoldsHere t pc pc' → n ≤ b → Runs b (On fn pc (give t v ops) n w) (Go tt n w) (λ (_ : Unit {0}) n w. On fn pc' ops n w)
+    go_runs : (b : ℕ) (t : Bool) (pc pc' : ℕ) (v : Value) (ops : List Operand) (n : ℕ) (w : World) → LetGo HasIn HoldsHere LabelIn t pc pc' → n ≤ b → Runs b (On fn pc (give t v ops) n w) (Go tt n w) (λ (_ : Unit {0}) n w. On fn pc' ops n w)
     go_runs b true pc pc' v ops n w at le = done_runs b _ tt n w _ le (stays _ _ (ap (λ p. On fn p ops n w) at))
     go_runs b false pc pc' v ops n w at le = done_runs b _ tt n w _ le (goes_on _ _ (one (op.Plain ef.Drop) pc pc' (Val v ∷ ops) n w at ∙ ap (λ p. On fn p ops n w) at.next))
 
-    module _ (d : ℕ) where
-      mutual
-        statement_runs : (s : Statement) (pc pc' : ℕ) (ops : List Operand) (b n : ℕ) (w : World) → TypedStatement s → StatementAt HasIn HoldsHere s pc pc' → n ≤ b → Runs b (On fn pc ops n w) (does d s n w) (λ _ n w. On fn pc' ops n w)
-        statement_runs (Empty line) pc pc' ops b n w t at le = line_runs b line pc pc' ops n w at le
-        statement_runs (Block' line row body) pc pc' ops b n w t at le =
-            then_runs b _ _ _ _ _ (line_runs b line pc at.mid ops n w at.fst le)
-            λ _ n w le. statements_run body at.mid pc' ops b n w t at.snd le
-        statement_runs (Evaluate line e) pc pc' ops b n w t at le =
-            then_runs b _ _ _ _ _ (line_runs b line pc at.mid ops n w at.fst le)
-            λ _ n w le. then_runs b _ _ _ _ _ (expression_runs e at.mid at.snd.mid ops b n w t at.snd.fst le)
-            λ v n w le. go_runs b (is_void e) at.snd.mid pc' v ops n w at.snd.snd le
-
-        statements_run : {m : _} (ss : Row_of-Statement m) (pc pc' : ℕ) (ops : List Operand) (b n : ℕ) (w : World) → TypedStatements ss → StatementsAt HasIn HoldsHere ss pc pc' → n ≤ b → Runs b (On fn pc ops n w) (does_row d ss n w) (λ _ n w. On fn pc' ops n w)
-        statements_run end_of-Statement pc pc' ops b n w t at le = done_runs b _ tt n w _ le (stays _ _ (ap (λ p. On fn p ops n w) at))
-        statements_run (more_of-Statement s rest) pc pc' ops b n w t at le =
-            then_runs b _ _ _ _ _ (statement_runs s pc at.mid ops b n w t.0 at.fst le)
-            λ _ n w le. statements_run rest at.mid pc' ops b n w t.1 at.snd le
-
-      body_runs : (ss : List Statement) (pc pc' : ℕ) (ops : List Operand) (b n : ℕ) (w : World) → TypedBody ss → BodyAt HasIn HoldsHere ss pc pc' → n ≤ b → Runs b (On fn pc ops n w) (does_all d ss n w) (λ _ n w. On fn pc' ops n w)
-      body_runs [] pc pc' ops b n w t at le = done_runs b _ tt n w _ le (stays _ _ (ap (λ p. On fn p ops n w) at))
-      body_runs (s ∷ rest) pc pc' ops b n w t at le =
-          then_runs b _ _ _ _ _ (statement_runs s pc at.mid ops b n w t.0 at.fst le)
-          λ _ n w le. body_runs rest at.mid pc' ops b n w t.1 at.snd le
-
     -- a step, where one is left
-    spend_runs : {A : Type 0} (b pc pc' : ℕ) (ops : List Operand) (n : ℕ) (w : World) (go : Act A) (f : A → ℕ → World → m.Next) → One HasIn HoldsHere op.Step pc pc' → ((k : ℕ) → n ≡ suc k → Runs b (On fn pc' ops k w) (go k w) f) → Runs b (On fn pc ops n w) (spend go n w) f
+    spend_runs : {A : Type 0} (b pc pc' : ℕ) (ops : List Operand) (n : ℕ) (w : World) (go : Act A) (f : A → ℕ → World → m.Next) → One HasIn HoldsHere LabelIn op.Step pc pc' → ((k : ℕ) → n ≡ suc k → Runs b (On fn pc' ops k w) (go k w) f) → Runs b (On fn pc ops n w) (spend go n w) f
     spend_runs b pc pc' ops zero w go f at r = record { comes = goes_on _ _ (one op.Step pc pc' ops zero w at); within = tt }
     spend_runs b pc pc' ops (suc n) w go f at r =
         from_runs b _ _ (go n w) f (goes_on _ _ (one op.Step pc pc' ops (suc n) w at ∙ ap (λ p. On fn p ops n w) at.next)) (r n refl)
 
-    -- a function
-    function_runs : (f : Function) (end : ℕ) (d b n : ℕ) (w : World) → TypedBody f.body → FunctionAt HasIn HoldsHere f 0 end → n ≤ b → Runs b (land (lift (enter w.store) n w) (λ _ n w. On fn 0 [] n w)) (calls d (Some f) n w) (λ v n w. Halt (Returned v) n w)
-    function_runs f end d b n w t at le =
-        then_runs b _ _ _ _ _ (lift_here b n w (enter w.store) (λ _ n w. On fn 0 [] n w) le)
-        λ _ n w le. spend_runs b 0 at.mid [] n w _ _ at.fst λ k e.
-        then_runs b _ _ _ _ _ (body_runs d f.body at.mid at.snd.mid [] b k w t at.snd.fst (omega (arith, e, le)))
-        λ _ n w le. done_runs b _ void_value n (record w { store = leave w.store }) _ le (goes_on _ _ (one op.Return at.snd.mid end [] n w at.snd.snd))
+    module _ (locals : List IntKind) (d : ℕ) where
+      abbrev Goal : ℕ → ℕ → List Operand → ℕ → Act (Unit {0}) → Type 0
+      Goal pc pc' ops b go = (n : ℕ) (w : World) → n ≤ b → Runs b (On fn pc ops n w) (go n w) (λ _ n w. On fn pc' ops n w)
 
-  pub function_comes : (fn : ℕ) (f : Function) (end : ℕ) (n : ℕ) (w : World) → TypedBody f.body → FunctionAt (HasIn fn) (HoldsIn code) f 0 end → Comes code (land (lift (enter w.store) n w) (λ _ n w. On fn 0 [] n w)) (land (calls n (Some f) n w) (λ v n w. Halt (Returned v) n w))
-  function_comes fn f end n w t at = (function_runs fn f end n n n w t at (omega arith)).comes
+      loop_runs : (t b line : ℕ) (e : Expression) (body : Act (Unit {0})) (top out pc p1 p2 p3 p4 p5 p6 pc' : ℕ) (ops : List Operand) → is_void e ≡ false → Typed locals e → label_at code fn top ≡ Some pc → label_at code fn out ≡ Some pc' → One HasIn HoldsHere LabelIn op.Step pc p1 → ExpressionAt HasIn HoldsHere LabelIn e p1 p2 → One HasIn HoldsHere LabelIn (op.Unless out) p2 p3 → One HasIn HoldsHere LabelIn (op.Plain (ef.Line line)) p4 p5 → One HasIn HoldsHere LabelIn (op.Jump top) p5 p6 → ((a : ℕ) → a ≤ d → Goal p3 p4 ops a body) → b ≤ t → t ≤ d → Goal pc pc' ops b (turns t line (value_of e) body)
+      loop_runs zero b line e body top out pc p1 p2 p3 p4 p5 p6 pc' ops v ty at_top at_out step test un ln jump body_runs bt td n w le =
+          spend_runs b pc p1 ops n w _ _ step λ k e. absurd (omega (arith, le, bt, e))
+      loop_runs (suc t) b line e body top out pc p1 p2 p3 p4 p5 p6 pc' ops v ty at_top at_out step test un ln jump body_runs bt td n w le =
+          spend_runs b pc p1 ops n w _ _ step λ k ek. weaken k b _ _ _ (omega (arith, ek, le))
+          (then_runs k _ _ _ _ _ (value_runs locals e p1 p2 ops k k w v ty test (omega arith))
+          λ x n w lx. unless_runs k out p2 p3 pc' x ops n w _ _ _ un at_out lx
+          (λ n w lx. then_runs k _ _ _ _ _ (body_runs k (omega (arith, ek, le, bt, td)) n w lx)
+          λ _ n w lx. then_runs k _ _ _ _ _ (line_runs k line p4 p5 ops n w ln lx)
+          λ _ n w lx. from_runs k _ _ _ _ (jump_comes top p5 p6 pc ops n w jump at_top)
+          (loop_runs t k line e body top out pc p1 p2 p3 p4 p5 p6 pc' ops v ty at_top at_out step test un ln jump body_runs (omega (arith, ek, le, bt)) (omega (arith, td)) n w lx))
+          (λ n w lx. done_runs k _ tt n w _ lx (stays _ _ refl)))
+
+      bool_value : (e : Expression) (k : IntKind) → kind_of locals e ≡ Some k → is_void e ≡ false
+      bool_value e k q = number_value locals e (subst (λ (o : Option IntKind). Is o) (sym q) (tt {0}))
+
+      mutual
+        statement_runs : (s : Statement) (pc pc' : ℕ) (ops : List Operand) (b : ℕ) → TypedStatement locals s → StatementAt HasIn HoldsHere LabelIn s pc pc' → b ≤ d → Goal pc pc' ops b (does d s)
+        statement_runs (Empty line) pc pc' ops b t at lb n w le = line_runs b line pc pc' ops n w at le
+        statement_runs (Block' line row body) pc pc' ops b t at lb n w le =
+            then_runs b _ _ _ _ _ (line_runs b line pc at.mid ops n w at.fst le)
+            λ _ n w le. statements_run body at.mid pc' ops b t at.snd lb n w le
+        statement_runs (Evaluate line e) pc pc' ops b t at lb n w le =
+            then_runs b _ _ _ _ _ (line_runs b line pc at.mid ops n w at.fst le)
+            λ _ n w le. then_runs b _ _ _ _ _ (expression_runs locals e at.mid at.snd.mid ops b n w t at.snd.fst le)
+            λ v n w le. go_runs b (is_void e) at.snd.mid pc' v ops n w at.snd.snd le
+        statement_runs (Assign line local e) pc pc' ops b t at lb n w le =
+            then_runs b _ _ _ _ _ (line_runs b line pc at.mid ops n w at.fst le)
+            λ _ n w le. then_runs b _ _ _ _ _ (value_runs locals e at.mid at.snd.mid ops b n w (number_value locals e (subst (λ (o : Option IntKind). Is o) (sym t.1) t.0)) t.2 at.snd.fst le)
+            λ v n w le. from_runs b _ _ _ _ (goes_on _ _ (one (op.Plain (ef.Local local)) at.snd.mid at.snd.snd.mid (Val v ∷ ops) n w at.snd.snd.fst ∙ ap (λ p. On fn p (At local ∷ Val v ∷ ops) n w) at.snd.snd.fst.next))
+            (one_runs b (op.Plain ef.Write) at.snd.snd.mid pc' (write local v w.store) (λ _. ops) (At local ∷ Val v ∷ ops) n w at.snd.snd.snd le refl)
+        statement_runs (If' line e p s) pc pc' ops b t at lb n w le =
+            let a = at.is.fst in let out = at.is.snd in
+            then_runs b _ _ _ _ _ (line_runs b line pc a.mid ops n w a.fst le)
+            λ _ n w le. then_runs b _ _ _ _ _ (value_runs locals e a.mid a.snd.mid ops b n w (bool_value e _ t.0) t.1 a.snd.fst le)
+            λ v n w le. unless_runs b at.label a.snd.mid a.snd.snd.mid pc' v ops n w _ _ _ a.snd.snd.fst out.at le
+            (λ n w le. subst (λ p. Runs b (On fn a.snd.snd.mid ops n w) (does d s n w) (λ _ n w. On fn p ops n w)) out.same (statement_runs s a.snd.snd.mid at.is.mid ops b t.2 a.snd.snd.snd lb n w le))
+            (λ n w le. done_runs b _ tt n w _ le (stays _ _ refl))
+        statement_runs (While' line e p s) pc pc' ops b t at lb n w le =
+            let a = at.is.fst in let out = at.is.snd in let l = a.snd in let h = l.is.fst in let a1 = l.is.snd in let a2 = a1.snd in let a3 = a2.snd in let a4 = a3.snd in let a5 = a4.snd in
+            then_runs b _ _ _ _ _ (line_runs b line pc a.mid ops n w a.fst le)
+            λ _ n w le. from_runs b _ _ _ _ (stays _ _ (ap (λ p. On fn p ops n w) h.same))
+            (loop_runs d b line e (does d s) l.label at.label l.is.mid a1.mid a2.mid a3.mid a4.mid a5.mid at.is.mid pc' ops (bool_value e _ t.0) t.1 h.at out.at a1.fst a2.fst a3.fst a5.fst a5.snd (λ a la. statement_runs s a3.mid a4.mid ops a t.2 a4.fst la) lb (omega arith) n w le)
+
+        statements_run : {m : _} (ss : Row_of-Statement m) (pc pc' : ℕ) (ops : List Operand) (b : ℕ) → TypedStatements locals ss → StatementsAt HasIn HoldsHere LabelIn ss pc pc' → b ≤ d → Goal pc pc' ops b (does_row d ss)
+        statements_run end_of-Statement pc pc' ops b t at lb n w le = done_runs b _ tt n w _ le (stays _ _ (ap (λ p. On fn p ops n w) at))
+        statements_run (more_of-Statement s rest) pc pc' ops b t at lb n w le =
+            then_runs b _ _ _ _ _ (statement_runs s pc at.mid ops b t.0 at.fst lb n w le)
+            λ _ n w le. statements_run rest at.mid pc' ops b t.1 at.snd lb n w le
+
+      body_runs : (ss : List Statement) (pc pc' : ℕ) (ops : List Operand) (b : ℕ) → TypedBody locals ss → BodyAt HasIn HoldsHere LabelIn ss pc pc' → b ≤ d → Goal pc pc' ops b (does_all d ss)
+      body_runs [] pc pc' ops b t at lb n w le = done_runs b _ tt n w _ le (stays _ _ (ap (λ p. On fn p ops n w) at))
+      body_runs (s ∷ rest) pc pc' ops b t at lb n w le =
+          then_runs b _ _ _ _ _ (statement_runs s pc at.mid ops b t.0 at.fst lb n w le)
+          λ _ n w le. body_runs rest at.mid pc' ops b t.1 at.snd lb n w le
+
+    -- a function
+    function_runs : (f : Function) (locals : List IntKind) (end : ℕ) (d b n : ℕ) (w : World) → locals ≡ f.locals → TypedBody f.locals f.body → FunctionAt HasIn HoldsHere LabelIn f 0 end → n ≤ b → b ≤ d → Runs b (land (lift (enter locals w.store) n w) (λ _ n w. On fn 0 [] n w)) (calls d (Some f) n w) (λ v n w. Halt (Returned v) n w)
+    function_runs f locals end d b n w same t at le lb =
+        from_runs b _ _ _ _ (stays _ _ (ap (λ l. land (lift (enter l w.store) n w) (λ _ n w. On fn 0 [] n w)) same))
+        (then_runs b _ _ _ _ _ (lift_here b n w (enter f.locals w.store) (λ _ n w. On fn 0 [] n w) le)
+        λ _ n w le. spend_runs b 0 at.mid [] n w _ _ at.fst λ k e.
+        then_runs b _ _ _ _ _ (body_runs f.locals d f.body at.mid at.snd.mid [] b t at.snd.fst lb k w (omega (arith, e, le)))
+        λ _ n w le. done_runs b _ void_value n (record w { store = leave w.store }) _ le (goes_on _ _ (one op.Return at.snd.mid end [] n w at.snd.snd)))
+
+  pub function_comes : (fn : ℕ) (f : Function) (locals : List IntKind) (end : ℕ) (n : ℕ) (w : World) → locals ≡ f.locals → TypedBody f.locals f.body → FunctionAt (HasIn fn) (HoldsIn code) (LabelIn fn) f 0 end → Comes code (land (lift (enter locals w.store) n w) (λ _ n w. On fn 0 [] n w)) (land (calls n (Some f) n w) (λ v n w. Halt (Returned v) n w))
+  function_comes fn f locals end n w same t at = (function_runs fn f locals end n n n w same t at (omega arith) (omega arith)).comes

@@ -7,23 +7,26 @@ use Rattle.mql_mean.specs.declared.tree.Checked.{Checked}
 use Rattle.mql_mean.specs.Means.{nothing}
 use Rattle.stack_vm.specs.declared.code.Code.{Code}
 use Rattle.stack_vm.specs.declared.code.FunctionCode.{FunctionCode}
+use Rattle.stack_vm.specs.declared.code.Label.{Label}
+use Rattle.mql_lower.proofs.Labels.{placed_at}
 use Rattle.stack_vm.specs.declared.code.Instruction.{Instruction}
 use Rattle.stack_vm.specs.declared.code.Instruction.TheVariants as op
 use Rattle.stack_vm.specs.Machine.{constant_of}
 use Rattle.mql_lower.specs.declared.draft.Draft.{Draft}
-use Rattle.mql_lower.specs.Stands.{◌▷◌, One, BodyAt, FunctionAt, HasOwn, HoldsIn, CodeFor, EachFor}
-use Rattle.mql_lower.specs.Draft.{Has, Holds, body_in, Keeps, Later, Emits, Adds, NewText, Compiles, entries, with_entries, Compiled}
+use Rattle.mql_lower.specs.Stands.{◌▷◌, One, BodyAt, FunctionAt, HasOwn, HoldsIn, LabelOwn, CodeFor, EachFor}
+use Rattle.mql_lower.specs.Draft.{Has, Holds, Labelled, body_in, placed, Keeps, Grown, Emits, Adds, NewText, Compiles, entries, with_entries, Compiled}
 use Rattle.mql_lower.specs.Draft.{all_functions}
-use Rattle.mql_lower.proofs.Emits.{seq_map, one_map, body_map, one_mono, body_mono, keeps_same, keeps_on, later_on, adds, seq, text_later, constant_keeps, slice_get_more, slice_get_seam}
+use Rattle.mql_lower.proofs.Emits.{seq_map, one_map, body_map, one_mono, body_mono, keeps_same, keeps_on, grown_on, adds, seq, text_grown, constant_keeps, slice_get_more, slice_get_seam}
 
-pub function_map : (H H' : ℕ → Instruction → Type 0) (C C' : ℕ → Value → Type 0) → ((pc : ℕ) (i : Instruction) → H pc i → H' pc i) → ((k : ℕ) (v : Value) → C k v → C' k v) → (f : Function) (a b : ℕ) → FunctionAt H C f a b → FunctionAt H' C' f a b
-function_map H H' C C' h c f a b s = seq_map a b (one_map H H' C C' h c op.Step) (λ a b. seq_map a b (body_map H H' C C' h c f.body) (one_map H H' C C' h c op.Return)) s
+pub function_map : (H H' : ℕ → Instruction → Type 0) (C C' : ℕ → Value → Type 0) (L L' : ℕ → ℕ → Type 0) → ((pc : ℕ) (i : Instruction) → H pc i → H' pc i) → ((k : ℕ) (v : Value) → C k v → C' k v) → ((k pc : ℕ) → L k pc → L' k pc) → (f : Function) (a b : ℕ) → FunctionAt H C L f a b → FunctionAt H' C' L' f a b
+function_map H H' C C' L L' h c l f a b s = seq_map a b (one_map H H' C C' L L' h c l op.Step) (λ a b. seq_map a b (body_map H H' C C' L L' h c l f.body) (one_map H H' C C' L L' h c l op.Return)) s
 
 -- code keeps standing for its function
 code_keeps : (code new : Code) → Keeps code new → (f : Function) (c : FunctionCode) → CodeFor code f c → CodeFor new f c
 code_keeps code new k f c h = record {
   name = k.texts c.name f.name h.name;
-  is = function_map (HasOwn c) (HasOwn c) (HoldsIn code) (HoldsIn new) (λ pc i e. e) k.constants f 0 (length c.instructions) h.is;
+  locals = h.locals;
+  is = function_map (HasOwn c) (HasOwn c) (HoldsIn code) (HoldsIn new) (LabelOwn c) (LabelOwn c) (λ pc i e. e) k.constants (λ l pc e. e) f 0 (length c.instructions) h.is;
 }
 
 each_keeps : (code new : Code) → Keeps code new → (fs : List Function) (cs : List FunctionCode) → EachFor code fs cs → EachFor new fs cs
@@ -52,25 +55,26 @@ each_more code new fs f h c = subst (EachFor new (fs ++ f ∷ [])) (sym c.functi
 abbrev put_function : Code → FunctionCode → Code
 put_function code c = record code { functions = code.functions ++ c ∷ [] }
 
-pub compiles : (f : Function) (code : Code) (name : ℕ) (d1 d2 d3 d4 : Draft) → NewText f.name name (record { code = code; instructions = [] }) d1 → Adds op.Step d1 d2 → Emits (body_in f.body) d2 d3 → Adds op.Return d3 d4 → Compiles f code (put_function d4.code (record { name = name; instructions = d4.instructions }))
-compiles f code name d1 d2 d3 d4 nt step body ret =
-    let d0 : Draft = record { code = code; instructions = [] } in
+pub compiles : (f : Function) (code : Code) (name : ℕ) (labels : List Label) (d1 d2 d3 d4 : Draft) → NewText f.name name (record { code = code; instructions = []; labels = [] }) d1 → Adds op.Step d1 d2 → Emits (body_in f.body) d2 d3 → Adds op.Return d3 d4 → labels ≡ placed d4.labels → Compiles f code (put_function d4.code (record { name = name; locals = f.locals; labels = labels; instructions = d4.instructions }))
+compiles f code name labels d1 d2 d3 d4 nt step body ret ls =
+    let d0 : Draft = record { code = code; instructions = []; labels = [] } in
     let q = seq _ _ d1 d2 d4 (one_mono op.Step) (adds op.Step d1 d2 step) (seq (body_in f.body) _ d2 d3 d4 (body_mono f.body) body (adds op.Return d3 d4 ret)) in
-    let l1 : Later d0 d1 = subst (Later d0) (sym nt.draft) (text_later f.name d0) in
-    let l4 = later_on d0 d1 d4 l1 q.later in
-    let added : FunctionCode = record { name = name; instructions = d4.instructions } in
+    let g1 : Grown d0 d1 = subst (Grown d0) (sym nt.draft) (text_grown f.name d0) in
+    let g4 = grown_on d0 d1 d4 g1 q.grown in
+    let added : FunctionCode = record { name = name; locals = f.locals; labels = labels; instructions = d4.instructions } in
     let new : Code = put_function d4.code added in
     let same : Keeps d4.code new = constant_keeps d4.code new (λ t s h. h) (λ t k h. h) in
     let named : slice_get d1.code.texts name ≡ Some f.name = ap (λ (d : Draft). slice_get d.code.texts name) nt.draft ∙ ap (slice_get (code.texts ++ f.name ∷ [])) nt.numbered ∙ slice_get_seam code.texts f.name [] in
     let zero1 : length d1.instructions ≡ 0 = ap (λ (d : Draft). length d.instructions) nt.draft in
     record {
-      keeps = keeps_on code d4.code new l4.code same;
+      keeps = keeps_on code d4.code new g4.code same;
       added = added;
-      functions = ap (λ fs. fs ++ added ∷ []) l4.functions;
+      functions = ap (λ fs. fs ++ added ∷ []) g4.functions;
       each = (
         record {
-          name = q.later.code.texts name f.name named;
-          is = function_map (Has d4) (HasOwn added) (Holds d4) (HoldsIn new) (λ pc i e. e) same.constants f 0 (length d4.instructions) (subst (λ a. FunctionAt (Has d4) (Holds d4) f a (length d4.instructions)) zero1 q.is);
+          name = q.grown.code.texts name f.name named;
+          locals = refl;
+          is = function_map (Has d4) (HasOwn added) (Holds d4) (HoldsIn new) (Labelled d4) (LabelOwn added) (λ pc i e. e) same.constants (λ l pc e. ap (λ ls. slice_get ls l) ls ∙ placed_at d4.labels l pc e) f 0 (length d4.instructions) (subst (λ a. FunctionAt (Has d4) (Holds d4) (Labelled d4) f a (length d4.instructions)) zero1 q.is);
         },
         tt,
       );

@@ -1,5 +1,5 @@
 -- Code in the making.
-use Rattle.std.specs.Prelude.{◌≡◌, ℕ, ◌+◌, List, [], ◌∷◌, ◌++◌, Option, Some, None, length, slice_get}
+use Rattle.std.specs.Prelude.{◌≡◌, ℕ, ◌+◌, List, [], ◌∷◌, ◌++◌, Option, Some, None, length, slice_get, slice_set}
 use Rattle.mql_mean.specs.declared.value.Value.{Value}
 use Rattle.mql_mean.specs.declared.tree.Expression.{Expression}
 use Rattle.mql_mean.specs.declared.tree.Statement.{Statement}
@@ -9,6 +9,7 @@ use Rattle.mql_mean.specs.Means.{nothing}
 use Rattle.stack_vm.specs.declared.code.Code.{Code}
 use Rattle.stack_vm.specs.declared.code.Constant.{Constant}
 use Rattle.stack_vm.specs.declared.code.FunctionCode.{FunctionCode}
+use Rattle.stack_vm.specs.declared.code.Label.{Label}
 use Rattle.stack_vm.specs.declared.code.Instruction.{Instruction}
 use Rattle.stack_vm.specs.Machine.{constant_of}
 use Rattle.mql_lower.specs.declared.draft.Draft.{Draft}
@@ -22,36 +23,47 @@ Has d pc i = slice_get d.instructions pc ≡ Some i
 abbrev pub Holds : Draft → ℕ → Value → Type 0
 Holds d number v = constant_of d.code number ≡ Some v
 
+abbrev pub Labelled : Draft → ℕ → ℕ → Type 0
+Labelled d label pc = slice_get d.labels label ≡ Some (Some pc)
+
 abbrev pub expression_in : Expression → Draft → Span
-expression_in e d = ExpressionAt (Has d) (Holds d) e
+expression_in e d = ExpressionAt (Has d) (Holds d) (Labelled d) e
 
 abbrev pub arguments_in : List Expression → Draft → Span
 arguments_in [] d = Nothing
 arguments_in (e ∷ es) d = expression_in e d ▷ arguments_in es d
 
 abbrev pub let_go_in : Expression → Draft → Span
-let_go_in e d = LetGo (Has d) (Holds d) (is_void e)
+let_go_in e d = LetGo (Has d) (Holds d) (Labelled d) (is_void e)
 
 abbrev pub statement_in : Statement → Draft → Span
-statement_in s d = StatementAt (Has d) (Holds d) s
+statement_in s d = StatementAt (Has d) (Holds d) (Labelled d) s
 
 abbrev pub body_in : List Statement → Draft → Span
-body_in ss d = BodyAt (Has d) (Holds d) ss
+body_in ss d = BodyAt (Has d) (Holds d) (Labelled d) ss
 
 -- texts and constants stay, and functions are the same
 pub record Keeps (old new : Code) : Type 0 where
   pub texts : (number : ℕ) (s : List ℕ) → slice_get old.texts number ≡ Some s → slice_get new.texts number ≡ Some s
   pub constants : (number : ℕ) (v : Value) → constant_of old number ≡ Some v → constant_of new number ≡ Some v
 
--- what stands stays
+-- what stands stays, and labels that are set
 pub record Later (old new : Draft) : Type 0 where
   pub instructions : (pc : ℕ) (i : Instruction) → Has old pc i → Has new pc i
+  pub labels : (label pc : ℕ) → Labelled old label pc → Labelled new label pc
+  pub code : Keeps old.code new.code
+  pub functions : new.code.functions ≡ old.code.functions
+
+-- all that is there stays, also labels that are not set
+pub record Grown (old new : Draft) : Type 0 where
+  pub instructions : (pc : ℕ) (i : Instruction) → Has old pc i → Has new pc i
+  pub labels : (label : ℕ) (o : Option ℕ) → slice_get old.labels label ≡ Some o → slice_get new.labels label ≡ Some o
   pub code : Keeps old.code new.code
   pub functions : new.code.functions ≡ old.code.functions
 
 -- a part was added
 pub record Emits (A : Draft → Span) (old new : Draft) : Type 0 where
-  pub later : Later old new
+  pub grown : Grown old new
   pub is : A new (length old.instructions) (length new.instructions)
 
 -- an instruction was added
@@ -67,6 +79,24 @@ pub record NewText (s : List ℕ) (number : ℕ) (old new : Draft) : Type 0 wher
 pub record NewConstant (c : Constant) (number : ℕ) (old new : Draft) : Type 0 where
   pub numbered : number ≡ length old.code.constants
   pub draft : new ≡ record old { code = record old.code { constants = old.code.constants ++ c ∷ [] } }
+
+-- a label was added, which has no place yet
+pub record NewLabel (label : ℕ) (old new : Draft) : Type 0 where
+  pub numbered : label ≡ length old.labels
+  pub draft : new ≡ record old { labels = old.labels ++ None ∷ [] }
+
+-- a label got its place: the next instruction's
+abbrev pub SetLabel : ℕ → Draft → Draft → Type 0
+SetLabel label old new = new ≡ record old { labels = slice_set old.labels label (Some (length old.instructions)) }
+
+-- the labels of finished code
+abbrev pub place_of : Option ℕ → Label
+place_of None = record { place = 0 }
+place_of (Some pc) = record { place = pc }
+
+abbrev pub placed : List (Option ℕ) → List Label
+placed [] = []
+placed (o ∷ os) = place_of o ∷ placed os
 
 -- a function was added at the end
 pub record Compiles (f : Function) (old new : Code) : Type 0 where

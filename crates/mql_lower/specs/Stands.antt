@@ -1,11 +1,13 @@
 -- The code that stands for a part of a program.
 use Rattle.std.specs.Prelude.{◌≡◌, ℕ, zero, suc, ◌+◌, Bool, true, false, List, [], ◌∷◌, length, Option, Some, None, slice_get}
 use Rattle.mql_mean.specs.declared.value.Value.{Value}
-use Rattle.mql_mean.specs.declared.value.Value.TheVariants.{Str}
-use Rattle.mql_mean.specs.declared.tree.Expression.{Expression, Text, Native', Row_of-Expression, end_of-Expression, more_of-Expression}
-use Rattle.mql_mean.specs.declared.tree.Statement.{Statement, Empty, Block', Evaluate, Row_of-Statement, end_of-Statement, more_of-Statement}
+use Rattle.mql_mean.specs.declared.value.Value.TheVariants.{Num, Str}
+use Rattle.mql_mean.specs.declared.tree.Expression.{Expression, Text, Number, Local, Apply', Native', Row_of-Expression, end_of-Expression, more_of-Expression}
+use Rattle.mql_mean.specs.declared.tree.Statement.{Statement, Empty, Block', Evaluate, Assign, If', While', Row_of-Statement, end_of-Statement, more_of-Statement}
 use Rattle.mql_mean.specs.declared.tree.Function.{Function}
-use Rattle.mql_mean.specs.Types.{is_void}
+use Rattle.mql_mean.specs.Types.{is_void, count}
+use Rattle.fx8.specs.declared.int_kind.IntKind.{IntKind}
+use Rattle.stack_vm.specs.declared.code.Label.{Label}
 use Rattle.stack_vm.specs.declared.code.Code.{Code}
 use Rattle.stack_vm.specs.declared.code.FunctionCode.{FunctionCode}
 use Rattle.stack_vm.specs.declared.code.Instruction.{Instruction}
@@ -28,16 +30,21 @@ pub record ◌▷◌ (A B : Span) (pc pc' : ℕ) : Type 0 where
 abbrev pub Nothing : Span
 Nothing pc pc' = pc ≡ pc'
 
--- the number of a row's expressions
-abbrev pub count : {m : _} → Row_of-Expression m → ℕ
-count end_of-Expression = 0
-count (more_of-Expression e es) = suc (count es)
+-- a stretch with a label of its own
+pub record WithLabel (A : ℕ → Span) (pc pc' : ℕ) : Type 0 where
+  pub label : ℕ
+  pub is : A label pc pc'
 
--- over which instruction stands where, and which constant has which value
-module _ (Has : ℕ → Instruction → Type 0) (Holds : ℕ → Value → Type 0) where
+-- over which instruction stands where, which constant has which value, and which label is where
+module _ (Has : ℕ → Instruction → Type 0) (Holds : ℕ → Value → Type 0) (Labels : ℕ → ℕ → Type 0) where
   pub record One (i : Instruction) (pc pc' : ℕ) : Type 0 where
     pub at : Has pc i
     pub next : pc + 1 ≡ pc'
+
+  -- a label's place
+  pub record Here (label : ℕ) (pc pc' : ℕ) : Type 0 where
+    pub at : Labels label pc'
+    pub same : pc ≡ pc'
 
   -- a constant of a value
   pub record Constant (v : Value) (pc pc' : ℕ) : Type 0 where
@@ -49,6 +56,9 @@ module _ (Has : ℕ → Instruction → Type 0) (Holds : ℕ → Value → Type 
   abbrev mutual
     pub ExpressionAt : Expression → Span
     ExpressionAt (Text s) = Constant (Str s)
+    ExpressionAt (Number k x) = Constant (Num k x)
+    ExpressionAt (Local local) = One (op.Plain (ef.Local local)) ▷ One (op.Plain ef.Read)
+    ExpressionAt (Apply' o k row args) = RowAt args ▷ One (op.Plain (ef.Apply o k))
     ExpressionAt (Native' native row args) = RowAt args ▷ One (op.Native native (count args))
 
     pub RowAt : {m : _} → Row_of-Expression m → Span
@@ -66,6 +76,9 @@ module _ (Has : ℕ → Instruction → Type 0) (Holds : ℕ → Value → Type 
     StatementAt (Empty line) = One (op.Plain (ef.Line line))
     StatementAt (Block' line row body) = One (op.Plain (ef.Line line)) ▷ StatementsAt body
     StatementAt (Evaluate line e) = One (op.Plain (ef.Line line)) ▷ ExpressionAt e ▷ LetGo (is_void e)
+    StatementAt (Assign line local e) = One (op.Plain (ef.Line line)) ▷ ExpressionAt e ▷ One (op.Plain (ef.Local local)) ▷ One (op.Plain ef.Write)
+    StatementAt (If' line e p s) = WithLabel λ out. (One (op.Plain (ef.Line line)) ▷ ExpressionAt e ▷ One (op.Unless out) ▷ StatementAt s) ▷ Here out
+    StatementAt (While' line e p s) = WithLabel λ out. (One (op.Plain (ef.Line line)) ▷ WithLabel λ top. Here top ▷ One op.Step ▷ ExpressionAt e ▷ One (op.Unless out) ▷ StatementAt s ▷ One (op.Plain (ef.Line line)) ▷ One (op.Jump top)) ▷ Here out
 
     pub StatementsAt : {m : _} → Row_of-Statement m → Span
     StatementsAt end_of-Statement = Nothing
@@ -83,13 +96,17 @@ module _ (Has : ℕ → Instruction → Type 0) (Holds : ℕ → Value → Type 
 abbrev pub HasOwn : FunctionCode → ℕ → Instruction → Type 0
 HasOwn c pc i = slice_get c.instructions pc ≡ Some i
 
+abbrev pub LabelOwn : FunctionCode → ℕ → ℕ → Type 0
+LabelOwn c label pc = slice_get c.labels label ≡ Some (record { place = pc })
+
 abbrev pub HoldsIn : Code → ℕ → Value → Type 0
 HoldsIn code number v = constant_of code number ≡ Some v
 
 -- the code of a function has its name and stands for it, and nothing comes after it
 pub record CodeFor (code : Code) (f : Function) (c : FunctionCode) : Type 0 where
   pub name : slice_get code.texts c.name ≡ Some f.name
-  pub is : FunctionAt (HasOwn c) (HoldsIn code) f 0 (length c.instructions)
+  pub locals : c.locals ≡ f.locals
+  pub is : FunctionAt (HasOwn c) (HoldsIn code) (LabelOwn c) f 0 (length c.instructions)
 
 -- each function has its code
 abbrev pub EachFor : Code → List Function → List FunctionCode → Type 0

@@ -6,14 +6,14 @@ ghost use Rattle.mql_lower.specs.Draft.{Compiled, Compiles, Emits, arguments_in,
 ghost use Rattle.mql_lower.specs.Stands.{EachFor};
 ghost use Rattle.mql_lower.specs.Follows.{Follows};
 
-use crate::draft::{Draft, add_constant, add_text, put, short};
+use crate::draft::{Draft, add_constant, add_text, new_label, placed, put, set_label, short};
 use fx8::{ItemList, OutOfMemory};
 use mql_mean::{Checked, Expression, Function, Statement};
 use stack_vm::{Code, Constant, Effect, Entries, FunctionCode, Instruction, Program, Valid};
 use std::alloc::Global;
 
 #[cycle(expressions)]
-#[tactic(auto, using(crate::proofs::Emits::text_emits, crate::proofs::Emits::native_emits))]
+#[tactic(auto, using(crate::proofs::Emits::text_emits, crate::proofs::Emits::number_emits, crate::proofs::Emits::local_emits, crate::proofs::Emits::apply_emits, crate::proofs::Emits::native_emits))]
 fn expression(alloc: Global, draft: &mut Draft, e: &Expression) -> Result<(), OutOfMemory>
     ensures { OnOk result (Emits (expression_in e.now) draft.old draft.new) }
 {
@@ -22,6 +22,18 @@ fn expression(alloc: Global, draft: &mut Draft, e: &Expression) -> Result<(), Ou
             let number = add_text(alloc, draft, text)?;
             let constant = add_constant(draft, Constant::Text(number))?;
             put(draft, Instruction::Plain(Effect::Const(constant)))
+        }
+        Expression::Number(kind, number) => {
+            let constant = add_constant(draft, Constant::Number(*kind, *number))?;
+            put(draft, Instruction::Plain(Effect::Const(constant)))
+        }
+        Expression::Local(local) => {
+            put(draft, Instruction::Plain(Effect::Local(*local)))?;
+            put(draft, Instruction::Plain(Effect::Read))
+        }
+        Expression::Apply(operator, kind, args) => {
+            arguments(alloc, draft, args.as_slice())?;
+            put(draft, Instruction::Plain(Effect::Apply(*operator, *kind)))
         }
         Expression::Native(native, args) => {
             let count = short(args.len())?;
@@ -42,7 +54,7 @@ fn arguments(alloc: Global, draft: &mut Draft, args: &[Expression]) -> Result<()
 }
 
 #[cycle(statements)]
-#[tactic(auto, using(crate::proofs::Emits::empty_emits, crate::proofs::Emits::block_emits, crate::proofs::Emits::evaluate_emits))]
+#[tactic(auto, using(crate::proofs::Emits::empty_emits, crate::proofs::Emits::block_emits, crate::proofs::Emits::evaluate_emits, crate::proofs::Emits::assign_emits, crate::proofs::Labels::if_emits))]
 fn statement(alloc: Global, draft: &mut Draft, s: &Statement) -> Result<(), OutOfMemory>
     ensures { OnOk result (Emits (statement_in s.now) draft.old draft.new) }
 {
@@ -56,6 +68,33 @@ fn statement(alloc: Global, draft: &mut Draft, s: &Statement) -> Result<(), OutO
             put(draft, Instruction::Plain(Effect::Line(*line)))?;
             expression(alloc, draft, e)?;
             let_go(draft, e)
+        }
+        Statement::Assign(line, local, e) => {
+            put(draft, Instruction::Plain(Effect::Line(*line)))?;
+            expression(alloc, draft, e)?;
+            put(draft, Instruction::Plain(Effect::Local(*local)))?;
+            put(draft, Instruction::Plain(Effect::Write))
+        }
+        Statement::If(line, e, s) => {
+            let out = new_label(draft)?;
+            put(draft, Instruction::Plain(Effect::Line(*line)))?;
+            expression(alloc, draft, e)?;
+            put(draft, Instruction::Unless(out))?;
+            statement(alloc, draft, s)?;
+            set_label(draft, out)
+        }
+        Statement::While(line, e, s) => {
+            let out = new_label(draft)?;
+            put(draft, Instruction::Plain(Effect::Line(*line)))?;
+            let top = new_label(draft)?;
+            set_label(draft, top)?;
+            put(draft, Instruction::Step)?;
+            expression(alloc, draft, e)?;
+            put(draft, Instruction::Unless(out))?;
+            statement(alloc, draft, s)?;
+            put(draft, Instruction::Plain(Effect::Line(*line)))?;
+            put(draft, Instruction::Jump(top))?;
+            set_label(draft, out)
         }
     }
 }
@@ -89,16 +128,25 @@ fn function(alloc: Global, code: Code, f: &Function) -> Result<Code, OutOfMemory
     let mut draft = Draft {
         code,
         instructions: ItemList::new(alloc),
+        labels: ItemList::new(alloc),
     };
     let name = add_text(alloc, &mut draft, &f.name)?;
     put(&mut draft, Instruction::Step)?;
     block(alloc, &mut draft, f.body.as_slice())?;
     put(&mut draft, Instruction::Return)?;
+    let labels = placed(alloc, draft.labels.as_slice())?;
+    let locals = ItemList::from_slice(alloc, f.locals.as_slice())?;
     let Draft {
         mut code,
         instructions,
+        ..
     } = draft;
-    code.functions.push(FunctionCode { name, instructions })?;
+    code.functions.push(FunctionCode {
+        name,
+        locals,
+        labels,
+        instructions,
+    })?;
     Ok(code)
 }
 
@@ -139,6 +187,7 @@ fn empty_function(alloc: Global) -> Function
 {
     Function {
         name: ItemList::new(alloc),
+        locals: ItemList::new(alloc),
         body: ItemList::new(alloc),
     }
 }

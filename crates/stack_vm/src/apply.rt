@@ -29,7 +29,11 @@ fn compares(operator: IntOperator) -> bool
 fn kind_of_result(operator: IntOperator, kind: IntKind) -> IntKind
     ensures { result ≡ a.kind_if (a.compares operator) kind }
 {
-    if compares(operator) { IntKind::Bool } else { kind }
+    if compares(operator) {
+        IntKind::Bool
+    } else {
+        kind
+    }
 }
 
 /// An error at the line in force.
@@ -43,7 +47,13 @@ fn error(kind: ErrorKind, store: &Store) -> End
 }
 
 /// An operator on two numbers that are taken into its kind.
-fn on_numbers(operator: IntOperator, kind: IntKind, x: i128, y: i128, store: &Store) -> Result<Value, Fault>
+fn on_numbers(
+    operator: IntOperator,
+    kind: IntKind,
+    x: i128,
+    y: i128,
+    store: &Store,
+) -> Result<Value, Fault>
     ensures { Meets (a.on_numbers operator kind x y store.now) result store.now }
 {
     match int_op(operator, kind, wrap(kind, x), wrap(kind, y)) {
@@ -54,7 +64,13 @@ fn on_numbers(operator: IntOperator, kind: IntKind, x: i128, y: i128, store: &St
 }
 
 /// A binary operator on two values.
-pub fn binary(operator: IntOperator, kind: IntKind, x: &Value, y: &Value, store: &Store) -> Result<Value, Fault>
+pub fn binary(
+    operator: IntOperator,
+    kind: IntKind,
+    x: &Value,
+    y: &Value,
+    store: &Store,
+) -> Result<Value, Fault>
     ensures { Meets (a.apply (Operator.Binary operator) kind (x.now ∷ y.now ∷ []) store.now) result store.now }
 {
     let Some(x) = x.number() else {
@@ -67,7 +83,12 @@ pub fn binary(operator: IntOperator, kind: IntKind, x: &Value, y: &Value, store:
 }
 
 /// A unary operator on a value.
-pub fn unary(operator: UnaryOperator, kind: IntKind, x: &Value, store: &Store) -> Result<Value, Fault>
+pub fn unary(
+    operator: UnaryOperator,
+    kind: IntKind,
+    x: &Value,
+    store: &Store,
+) -> Result<Value, Fault>
     ensures { Meets (a.apply (Operator.Unary operator) kind (x.now ∷ []) store.now) result store.now }
 {
     let Some(x) = x.number() else {

@@ -4,12 +4,12 @@ ghost use Rattle.stack_vm.specs.Machine as m;
 ghost use Rattle.stack_vm.specs.Steps.{Finds, Gave, Leaves, Pushed, Took};
 ghost use Rattle.mql_mean.specs.Natives.{native_void};
 
+use crate::apply::{binary, unary};
 use crate::code::{Code, Constant, Effect};
 use crate::fault::Fault;
 use crate::frames::{read, set_line, write};
 use crate::operands::Stack;
 use crate::state::Operand;
-use crate::apply::{binary, unary};
 use fx8::{IntKind, IntOperator, ItemList};
 use mql_mean::{Native, Operator, Store, UnaryOperator, Value, ValueList};
 use std::alloc::Global;
@@ -92,7 +92,12 @@ fn pop_place(operands: &mut Stack<Operand>) -> Option<u32>
     }
 }
 
-fn do_read(alloc: Global, code: &Code, operands: &mut Stack<Operand>, store: &Store) -> Result<(), Fault>
+fn do_read(
+    alloc: Global,
+    code: &Code,
+    operands: &mut Stack<Operand>,
+    store: &Store,
+) -> Result<(), Fault>
     ensures { Leaves (m.effect code.now Effect.Read operands.old) operands.new store.now result store.now }
 {
     let Some(place) = pop_place(operands) else {
@@ -114,7 +119,13 @@ fn do_write(code: &Code, operands: &mut Stack<Operand>, store: &mut Store) -> Re
     write(place, value, store)
 }
 
-fn do_binary(code: &Code, operator: IntOperator, kind: IntKind, operands: &mut Stack<Operand>, store: &Store) -> Result<(), Fault>
+fn do_binary(
+    code: &Code,
+    operator: IntOperator,
+    kind: IntKind,
+    operands: &mut Stack<Operand>,
+    store: &Store,
+) -> Result<(), Fault>
     ensures { Leaves (m.effect code.now (Effect.Apply (Operator.Binary operator) kind) operands.old) operands.new store.now result store.now }
 {
     let Some(y) = pop_value(operands) else {
@@ -129,7 +140,13 @@ fn do_binary(code: &Code, operator: IntOperator, kind: IntKind, operands: &mut S
     }
 }
 
-fn do_unary(code: &Code, operator: UnaryOperator, kind: IntKind, operands: &mut Stack<Operand>, store: &Store) -> Result<(), Fault>
+fn do_unary(
+    code: &Code,
+    operator: UnaryOperator,
+    kind: IntKind,
+    operands: &mut Stack<Operand>,
+    store: &Store,
+) -> Result<(), Fault>
     ensures { Leaves (m.effect code.now (Effect.Apply (Operator.Unary operator) kind) operands.old) operands.new store.now result store.now }
 {
     let Some(x) = pop_value(operands) else {

@@ -3,8 +3,8 @@ ghost use Rattle.std.specs.Prelude.{◌≡◌, ◌+◌, ◌<◌, ◌^◌, ℕ, S
 ghost use Rattle.stack_vm.specs.Machine as m;
 ghost use Rattle.stack_vm.specs.Steps.{Acts, Steps};
 
-use crate::code::{Code, Effect, Instruction};
 use crate::apply::truth;
+use crate::code::{Code, Effect, Instruction};
 use crate::effects::{give, plain, pop_value, take_values};
 use crate::fault::Fault;
 use crate::frames::{leave, line_in_force};
