@@ -3,5 +3,7 @@
 
 mod draft;
 mod lowering;
+#[cfg(test)]
+mod tests;
 
 pub use lowering::lower;
