@@ -3,6 +3,7 @@ pub mod Answer
 pub mod Natives
 pub mod World
 pub mod Store
+pub mod Apply
 pub mod Ask
 pub mod Means
 pub mod Types

@@ -1,16 +1,17 @@
 -- What a program of the source language does (MQL5 Reference, Language Basics, Operators, Functions).
-use Rattle.std.specs.Prelude.{◌≡◌, ℕ, ℤ, pos, zero, suc, List, [], ◌∷◌, Option, Some, None, slice_get}
+use Rattle.std.specs.Prelude.{◌≡◌, ℕ, ℤ, pos, zero, suc, Bool, true, false, List, [], ◌∷◌, Option, Some, None, slice_get}
 use Rattle.fx8.specs.declared.int_kind.IntKind.TheVariants.{Int}
 use Rattle.mql_mean.specs.declared.value.Value.{Value}
 use Rattle.mql_mean.specs.declared.value.Value.TheVariants.{Num, Str}
-use Rattle.mql_mean.specs.declared.tree.Expression.{Expression, Text, Native', Row_of-Expression, end_of-Expression, more_of-Expression}
-use Rattle.mql_mean.specs.declared.tree.Statement.{Statement, Empty, Block', Evaluate, Row_of-Statement, end_of-Statement, more_of-Statement}
+use Rattle.mql_mean.specs.declared.tree.Expression.{Expression, Text, Number, Local, Apply', Native', Row_of-Expression, end_of-Expression, more_of-Expression}
+use Rattle.mql_mean.specs.declared.tree.Statement.{Statement, Empty, Block', Evaluate, Assign, If', While', Row_of-Statement, end_of-Statement, more_of-Statement}
 use Rattle.mql_mean.specs.declared.tree.Function.{Function}
 use Rattle.mql_mean.specs.declared.tree.Checked.{Checked}
 use Rattle.mql_mean.specs.declared.tree.Entry.{Entry}
 use Rattle.mql_mean.specs.declared.tree.Entry.TheVariants.{Start, Init, Tick, Trade, Tester, Deinit, Stop}
-use Rattle.mql_mean.specs.World.{Ended, Returned, Stuck, World, Res, Go, End, Act, bind, lift, spend}
-use Rattle.mql_mean.specs.Store.{enter, leave, set_line}
+use Rattle.mql_mean.specs.World.{Ended, Returned, Exhausted, Stuck, World, Res, Go, End, Act, bind, lift, spend}
+use Rattle.mql_mean.specs.Store.{enter, leave, set_line, read, write}
+use Rattle.mql_mean.specs.Apply.{apply, truth}
 use Rattle.mql_mean.specs.Ask.{ask}
 
 -- the value of a void function
@@ -21,11 +22,25 @@ void_value = Num Int (pos 0)
 abbrev mutual
   pub value_of : Expression → Act Value
   value_of (Text s) n w = Go (Str s) n w
+  value_of (Number k x) n w = Go (Num k x) n w
+  value_of (Local local) n w = lift (read local w.store) n w
+  value_of (Apply' o k row args) n w = bind (values_of args n w) (λ vs n w. lift (apply o k vs w.store) n w)
   value_of (Native' native row args) n w = bind (values_of args n w) (λ vs n w. ask native vs n w)
 
   pub values_of : {m : _} → Row_of-Expression m → Act (List Value)
   values_of end_of-Expression n w = Go [] n w
   values_of (more_of-Expression e es) n w = bind (value_of e n w) (λ v n w. bind (values_of es n w) (λ vs n w. Go (v ∷ vs) n w))
+
+abbrev pub choose : {A : Type 0} → Bool → Act A → Act A → Act A
+choose true a b n w = a n w
+choose false a b n w = b n w
+
+-- a loop of at most so many turns: each spends a step, makes its test, and then its body; then the loop's line is in
+-- force again
+abbrev pub turns : ℕ → ℕ → Act Value → Act (Unit {0}) → Act (Unit {0})
+turns zero line test body n w = spend (λ n w. End Exhausted n w) n w
+turns (suc t) line test body n w =
+    spend (λ n w. bind (test n w) (λ v n w. bind (lift (truth v w.store) n w) (λ b. choose b (λ n w. bind (body n w) (λ _ n w. bind (lift (set_line line w.store) n w) (λ _. turns t line test body))) (Go tt)))) n w
 
 -- what a statement does, with at most so many turns of each loop; it puts its line in force first
 module _ (fuel : ℕ) where
@@ -34,6 +49,10 @@ module _ (fuel : ℕ) where
     does (Empty line) n w = lift (set_line line w.store) n w
     does (Block' line row body) n w = bind (lift (set_line line w.store) n w) (λ _ n w. does_row body n w)
     does (Evaluate line e) n w = bind (lift (set_line line w.store) n w) (λ _ n w. bind (value_of e n w) (λ v n w. Go tt n w))
+
+    does (Assign line local e) n w = bind (lift (set_line line w.store) n w) (λ _ n w. bind (value_of e n w) (λ v n w. lift (write local v w.store) n w))
+    does (If' line e p s) n w = bind (lift (set_line line w.store) n w) (λ _ n w. bind (value_of e n w) (λ v n w. bind (lift (truth v w.store) n w) (λ b. choose b (does s) (Go tt))))
+    does (While' line e p s) n w = bind (lift (set_line line w.store) n w) (λ _. turns fuel line (value_of e) (does s))
 
     pub does_row : {m : _} → Row_of-Statement m → Act (Unit {0})
     does_row end_of-Statement n w = Go tt n w
@@ -51,11 +70,11 @@ returns n w = Go void_value n (record w { store = leave w.store })
 -- a call of a function: its frame, then its step, then its body
 abbrev pub calls : ℕ → Option Function → Act Value
 calls fuel None n w = End Stuck n w
-calls fuel (Some f) n w = bind (lift (enter w.store) n w) (λ _. spend (λ n w. bind (does_all fuel f.body n w) (λ _. returns)))
+calls fuel (Some f) n w = bind (lift (enter f.locals w.store) n w) (λ _. spend (λ n w. bind (does_all fuel f.body n w) (λ _. returns)))
 
 -- a function with nothing to do, as a source's Start and Stop are where it has no globals
 abbrev pub nothing : Function
-nothing = record { name = []; body = [] }
+nothing = record { name = []; locals = []; body = [] }
 
 -- the function of a list whose number is given
 abbrev pub numbered : List Function → Option ℕ → Option Function

@@ -16,6 +16,7 @@ use Rattle.mql_mean.specs.Answer.{Answer, Replied, Refused}
 abbrev pub native_number : Native → ℕ
 native_number Print = 49
 
+-- the kind int
 abbrev pub is_int : IntKind → Bool
 is_int kind.Int = true
 is_int _ = false
@@ -60,6 +61,10 @@ is_void v = is_void_at (out-Value v)
 abbrev pub none_of : List Value → Bool
 none_of [] = true
 none_of (v ∷ vs) = false
+
+-- the native functions that give no value
+abbrev pub native_void : Native → Bool
+native_void Print = true
 
 -- the replies that a native function may give: Print is void and has no reference arguments
 abbrev pub gives : Native → Reply → Bool

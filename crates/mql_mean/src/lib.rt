@@ -10,5 +10,5 @@ mod value;
 pub use error::{ErrorKind, RunError};
 pub use host::{Host, HostCall, HostEnd, Reply};
 pub use store::{Frame, Store};
-pub use tree::{Checked, Entry, Expression, Function, Native, Statement};
+pub use tree::{Checked, Entry, Expression, Function, Native, Operator, Statement, UnaryOperator};
 pub use value::{Value, ValueList};

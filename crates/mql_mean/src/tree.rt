@@ -1,8 +1,10 @@
 //! The checked tree of a program.
 ghost use Rattle.std.specs.Prelude.{◌≡◌};
-ghost use Rattle.mql_mean.specs.Natives.{native_number};
+ghost use Rattle.mql_mean.specs.Natives.{native_number, native_void, takes};
+ghost use Rattle.mql_mean.specs.Types.{is_void};
 
-use fx8::{ItemList, Text};
+use crate::value::{ValueList, all_print};
+use fx8::{IntKind, IntOperator, ItemList, Text};
 
 /// A native function.
 #[derive(Clone, Copy, Debug, PartialEq, Eq)]
@@ -20,6 +22,24 @@ impl Native {
             Native::Print => 49,
         }
     }
+
+    /// Whether it gives no value.
+    pub fn is_void(self) -> bool
+        ensures { result ≡ native_void self }
+    {
+        match self {
+            Native::Print => true,
+        }
+    }
+
+    /// Whether it takes these arguments.
+    pub fn takes(self, args: &ValueList) -> bool
+        ensures { result ≡ takes self args.now }
+    {
+        match self {
+            Native::Print => all_print(args.as_slice()),
+        }
+    }
 }
 
 /// What calls a program: the tester's beginning and end, and the events that a program may handle.
@@ -34,13 +54,48 @@ pub enum Entry {
     Stop,
 }
 
+/// An operator on one number.
+#[derive(Clone, Copy, Debug, PartialEq, Eq)]
+pub enum UnaryOperator {
+    /// The number's negative.
+    Minus,
+}
+
+/// An operator on numbers.
+#[derive(Clone, Copy, Debug, PartialEq, Eq)]
+pub enum Operator {
+    Unary(UnaryOperator),
+    Binary(IntOperator),
+}
+
 /// An expression.
 #[derive(Drop)]
 pub enum Expression {
     /// A string literal.
     Text(Text),
+    /// A number of a kind. The truth values are the numbers 1 and 0 of `Bool`.
+    Number(IntKind, i128),
+    /// The value of the local of this number.
+    Local(u32),
+    /// An operator on operands that are taken into a kind.
+    Apply(Operator, IntKind, ItemList<Expression>),
     /// A call of a native function with its arguments.
     Native(Native, ItemList<Expression>),
+}
+
+impl Expression {
+    /// Whether it gives no value.
+    pub fn is_void(&self) -> bool
+        ensures { result ≡ is_void self.now }
+    {
+        match self {
+            Expression::Text(_)
+            | Expression::Number(_, _)
+            | Expression::Local(_)
+            | Expression::Apply(_, _, _) => false,
+            Expression::Native(native, _) => native.is_void(),
+        }
+    }
 }
 
 /// A statement, with its line.
@@ -50,12 +105,20 @@ pub enum Statement {
     Block(u32, ItemList<Statement>),
     /// An expression whose value is let go.
     Evaluate(u32, Expression),
+    /// Gives the local of this number the value of an expression, as an assignment and a declaration do.
+    Assign(u32, u32, Expression),
+    /// A statement that is gone through where the condition holds.
+    If(u32, Expression, Box<Statement>),
+    /// A statement that is gone through as long as the condition holds.
+    While(u32, Expression, Box<Statement>),
 }
 
 /// A function.
 #[derive(Drop)]
 pub struct Function {
     pub name: Text,
+    /// The kinds of its locals, by number. They begin as zero.
+    pub locals: ItemList<IntKind>,
     pub body: ItemList<Statement>,
 }
 

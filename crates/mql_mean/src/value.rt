@@ -1,6 +1,10 @@
 //! Values.
+ghost use Rattle.std.specs.Prelude.{◌≡◌, IfOk};
+ghost use Rattle.mql_mean.specs.Apply.{number_of};
+ghost use Rattle.mql_mean.specs.Natives.{all_print, is_int, prints};
 
-use fx8::{Fix8, IntKind, ItemList, Text};
+use fx8::{Fix8, IntKind, ItemList, OutOfMemory, Text};
+use std::alloc::Global;
 
 /// A value of the language.
 #[derive(Drop)]
@@ -21,3 +25,74 @@ pub enum Value {
 
 /// Values in order.
 pub type ValueList = ItemList<Value>;
+
+impl Value {
+    /// Another value that is the same.
+    #[cycle(copy)]
+    pub fn copy(&self, alloc: Global) -> Result<Value, OutOfMemory>
+        ensures { IfOk result (λ copy. copy ≡ self.now) }
+    {
+        match self {
+            Value::Num(kind, number) => Ok(Value::Num(*kind, *number)),
+            Value::Dbl(number) => Ok(Value::Dbl(*number)),
+            Value::Str(text) => Ok(Value::Str(ItemList::from_slice(alloc, text.as_slice())?)),
+            Value::Ptr(serial) => Ok(Value::Ptr(*serial)),
+            Value::Arr(items) => Ok(Value::Arr(copies(alloc, items.as_slice())?)),
+            Value::Rec(fields) => Ok(Value::Rec(copies(alloc, fields.as_slice())?)),
+        }
+    }
+
+    /// Its number, if it is one of an integer kind.
+    pub fn number(&self) -> Option<i128>
+        ensures { result ≡ number_of self.now }
+    {
+        match self {
+            Value::Num(_, number) => Some(*number),
+            _ => None,
+        }
+    }
+
+    /// Whether it can be printed: an `int` or a string.
+    pub fn prints(&self) -> bool
+        ensures { result ≡ prints self.now }
+    {
+        match self {
+            Value::Num(kind, _) => is_int(*kind),
+            Value::Str(_) => true,
+            _ => false,
+        }
+    }
+}
+
+#[cycle(copy)]
+fn copies(alloc: Global, values: &[Value]) -> Result<ValueList, OutOfMemory>
+    ensures { IfOk result (λ copies. copies ≡ values.now) }
+{
+    let mut copies = ItemList::new(alloc);
+    for value in values {
+        copies.push(value.copy(alloc)?)?;
+    }
+    Ok(copies)
+}
+
+/// Whether it is the kind `int`.
+fn is_int(kind: IntKind) -> bool
+    ensures { result ≡ is_int kind }
+{
+    match kind {
+        IntKind::Int => true,
+        _ => false,
+    }
+}
+
+/// Whether each of the values can be printed.
+pub fn all_print(values: &[Value]) -> bool
+    ensures { result ≡ all_print values.now }
+{
+    for value in values {
+        if !value.prints() {
+            return false;
+        }
+    }
+    true
+}

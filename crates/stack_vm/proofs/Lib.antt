@@ -3,3 +3,4 @@ pub mod Turns
 pub mod Falls
 pub mod Never
 pub mod Begins
+pub mod Locals

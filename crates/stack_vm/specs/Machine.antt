@@ -1,13 +1,14 @@
 -- What the machine does, instruction by instruction.
 use Rattle.std.specs.Prelude.{◌≡◌, ℕ, ℤ, zero, suc, ◌+◌, Bool, true, false, List, [], ◌∷◌, ◌++◌, Option, Some, None, slice_get}
 use Rattle.mql_mean.specs.declared.value.Value.{Value}
-use Rattle.mql_mean.specs.declared.value.Value.TheVariants.{Str}
+use Rattle.mql_mean.specs.declared.value.Value.TheVariants.{Num, Str}
 use Rattle.mql_mean.specs.declared.store.Store.{Store}
 use Rattle.mql_mean.specs.declared.tree.Native.{Native}
 use Rattle.mql_mean.specs.declared.tree.Entry.{Entry}
 use Rattle.mql_mean.specs.declared.tree.Entry.TheVariants as entry
 use Rattle.mql_mean.specs.World.{Ended, Returned, Exhausted, Stuck, World, world, Out, Ok', Bad, Res, Go, End, lift, map_out}
-use Rattle.mql_mean.specs.Store.{with_some, enter, leave, set_line}
+use Rattle.mql_mean.specs.Store.{with_some, enter, leave, set_line, read, write}
+use Rattle.mql_mean.specs.Apply.{arity, apply, truth}
 use Rattle.mql_mean.specs.Ask.{ask}
 use Rattle.mql_mean.specs.Means.{void_value}
 use Rattle.mql_mean.specs.Natives.{native_void}
@@ -39,6 +40,7 @@ then_some (Some a) f = f a
 
 -- the value of a constant
 abbrev pub constant_value : Code → Constant → Option Value
+constant_value code (constant.Number k x) = Some (Num k x)
 constant_value code (constant.Text number) = then_some (slice_get code.texts number) (λ s. Some (Str s))
 
 abbrev pub constant_of : Code → ℕ → Option Value
@@ -64,11 +66,42 @@ abbrev pub drop_on : List Operand → Store → Out (List Operand)
 drop_on [] store = Bad Stuck
 drop_on (x ∷ operands) store = Ok' operands store
 
+-- the topmost operand, a value or a place
+abbrev pub top_value : List Operand → Option (Taken Value)
+top_value [] = None
+top_value (At p ∷ operands) = None
+top_value (Val v ∷ operands) = Some (beside v operands)
+
+abbrev pub top_place : List Operand → Option (Taken ℕ)
+top_place [] = None
+top_place (At p ∷ operands) = Some (beside p operands)
+top_place (Val v ∷ operands) = None
+
+abbrev pub with_value : List Operand → Value → List Operand
+with_value operands v = Val v ∷ operands
+
 -- what an effect makes of the operands and the store
 abbrev pub effect : Code → Effect → List Operand → Store → Out (List Operand)
 effect code (ef.Const number) operands store = with_some (constant_of code number) (λ v. Ok' (Val v ∷ operands) store)
 effect code ef.Drop operands store = drop_on operands store
+effect code (ef.Local local) operands store = Ok' (At local ∷ operands) store
+effect code ef.Read operands store = with_some (top_place operands) (λ p. map_out (with_value p.rest) (read p.it store))
+effect code ef.Write operands store = with_some (top_place operands) (λ p. with_some (top_value p.rest) (λ v. map_out (λ _. v.rest) (write p.it v.it store)))
+effect code (ef.Apply o k) operands store = with_some (take_values (arity o) operands []) (λ vs. map_out (with_value vs.rest) (apply o k vs.it store))
 effect code (ef.Line line) operands store = map_out (λ _. operands) (set_line line store)
+
+-- from a label on
+abbrev pub goes : Option ℕ → ℕ → List Operand → ℕ → World → Next
+goes None function operands n w = Halt Stuck n w
+goes (Some place) function operands n w = On function place operands n w
+
+-- the place of a label of a function
+abbrev pub label_at : Code → ℕ → ℕ → Option ℕ
+label_at code function label = then_some (slice_get code.functions function) (λ c. then_some (slice_get c.labels label) (λ l. Some l.place))
+
+abbrev pub branch : Bool → Next → Next → Next
+branch true a b = a
+branch false a b = b
 
 -- a native function's value goes on top; one that gives no value leaves the operands
 abbrev pub give : Bool → Value → List Operand → List Operand
@@ -90,6 +123,9 @@ abbrev pub act : Code → Option Instruction → ℕ → ℕ → List Operand �
 act code None function place operands n w = Halt Stuck n w
 act code (Some (op.Plain e)) function place operands n w = land (lift (effect code e operands w.store) n w) (λ operands n w. On function (place + 1) operands n w)
 act code (Some (op.Native native count)) function place operands n w = native_on native (take_values count operands []) n w (λ operands n w. On function (place + 1) operands n w)
+act code (Some (op.Jump label)) function place operands n w = goes (label_at code function label) function operands n w
+act code (Some (op.Unless label)) function place operands n w =
+    land (lift (with_some (top_value operands) (λ v. map_out (λ b. beside b v.rest) (truth v.it w.store))) n w) (λ r n w. branch r.it (On function (place + 1) r.rest n w) (goes (label_at code function label) function r.rest n w))
 act code (Some op.Step) function place operands n w = stepped n (On function (place + 1) operands) w
 act code (Some op.Return) function place operands n w = Halt (Returned void_value) n (record w { store = leave w.store })
 
@@ -114,7 +150,7 @@ pub record Comes (code : Code) (x y : Next) : Type 0 where
 -- a function's first instruction, with a frame of its own and no operands
 abbrev pub starts : Option FunctionCode → ℕ → ℕ → World → Next
 starts None function n w = Halt Stuck n w
-starts (Some c) function n w = land (lift (enter w.store) n w) (λ _ n w. On function 0 [] n w)
+starts (Some c) function n w = land (lift (enter c.locals w.store) n w) (λ _ n w. On function 0 [] n w)
 
 -- the number of the function that an entry calls
 abbrev pub entry_of : Entries → Entry → Option ℕ

@@ -1,7 +1,11 @@
 -- What the machine's code does: one instruction, and a whole run, over any host.
-use Rattle.std.specs.Prelude.{◌≡◌, ℕ, ℤ, List, [], ◌∷◌, ◌++◌, Result, Ok, Err, Option, Some, None}
+use Rattle.std.specs.Prelude.{◌≡◌, ℕ, ℤ, Bool, true, false, slice_get, List, [], ◌∷◌, ◌++◌, Result, Ok, Err, Option, Some, None}
 use Rattle.mql_mean.specs.declared.error.RunError.{RunError}
+use Rattle.mql_mean.specs.declared.value.Value.{Value}
 use Rattle.mql_mean.specs.declared.store.Store.{Store}
+use Rattle.mql_mean.specs.declared.store.Frame.{Frame}
+use Rattle.mql_mean.specs.Store.{with_local}
+use Rattle.mql_mean.specs.Types.{Is}
 use Rattle.mql_mean.specs.declared.host.HostCall.{HostCall}
 use Rattle.mql_mean.specs.declared.tree.Entry.{Entry}
 use Rattle.mql_mean.specs.Answer.{Answer}
@@ -37,6 +41,13 @@ Leaves f b store (Err (fault.End e)) store' = (f store ≡ Bad (as_ended e)) × 
 Leaves f b store (Err fault.Stuck) store' = (f store ≡ Bad Stuck) × (store' ≡ store)
 Leaves f b store (Err fault.Memory) store' = Unit {0}
 
+-- what a primitive that leaves the store gives
+abbrev pub Meets : {A : Type 0} → Out A → Result A Fault → Store → Type 0
+Meets o (Ok a) store = o ≡ Ok' a store
+Meets o (Err (fault.End e)) store = o ≡ Bad (as_ended e)
+Meets o (Err fault.Stuck) store = o ≡ Bad Stuck
+Meets o (Err fault.Memory) store = Unit {0}
+
 -- a push
 abbrev pub Pushed : {A B : Type 0} → Result A Fault → B → List B → List B → Type 0
 Pushed (Ok a) x old new = new ≡ x ∷ old
@@ -57,6 +68,11 @@ Finds (Ok a) o = o ≡ Some a
 Finds (Err (fault.End e)) o = ⊥
 Finds (Err fault.Stuck) o = o ≡ None
 Finds (Err fault.Memory) o = Unit {0}
+
+-- a local of a frame gets a value, if it is there
+abbrev pub WritesLocal : Bool → ℕ → Value → Frame → Frame → Type 0
+WritesLocal true local v f f' = Is (slice_get f.locals local) × (f' ≡ with_local local v f)
+WritesLocal false local v f f' = (slice_get f.locals local ≡ None) × (f' ≡ f)
 
 -- what is taken, and the operands below it
 abbrev pub Took : {A : Type 0} → Result A Fault → Option (Taken A) → List Operand → Type 0

@@ -1,6 +1,7 @@
 //! The machine that runs a program's code: operands on a stack, frames in a store, steps that are counted.
 #![tactic(auto)]
 
+mod apply;
 mod code;
 mod effects;
 mod fault;
@@ -11,7 +12,7 @@ mod program;
 mod state;
 mod step;
 
-pub use code::{Code, Constant, Effect, Entries, FunctionCode, Instruction};
+pub use code::{Code, Constant, Effect, Entries, FunctionCode, Instruction, Label};
 pub use machine::{End, Machine};
 pub use mql_mean::Entry;
 pub use program::{Program, Valid};

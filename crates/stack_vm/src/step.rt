@@ -4,7 +4,8 @@ ghost use Rattle.stack_vm.specs.Machine as m;
 ghost use Rattle.stack_vm.specs.Steps.{Acts, Steps};
 
 use crate::code::{Code, Effect, Instruction};
-use crate::effects::{give, plain, take_values};
+use crate::apply::truth;
+use crate::effects::{give, plain, pop_value, take_values};
 use crate::fault::Fault;
 use crate::frames::{leave, line_in_force};
 use crate::machine::End;
@@ -37,6 +38,45 @@ fn spend(code: &Code, state: &mut State, fuel: &mut u64) -> Result<(), Fault>
     Ok(())
 }
 
+/// The place of a label of a function.
+fn label_at(code: &Code, function: u32, label: u32) -> Option<u64>
+    ensures { result ≡ m.label_at code.now function label }
+{
+    let function = code.functions.at(function as u64)?;
+    let label = function.labels.at(label as u64)?;
+    Some(label.place as u64)
+}
+
+fn jump(code: &Code, state: &mut State, label: u32) -> Result<(), Fault>
+    ensures { (n : ℕ) → Acts code.now (Instruction.Jump label) state.old n result state.new n }
+{
+    match label_at(code, state.function, label) {
+        Some(place) => {
+            state.place = place;
+            Ok(())
+        }
+        None => Err(Fault::Stuck),
+    }
+}
+
+fn unless(code: &Code, state: &mut State, label: u32) -> Result<(), Fault>
+    requires { state.old.place + 1 < 2 ^ 64 }
+    ensures { (n : ℕ) → Acts code.now (Instruction.Unless label) state.old n result state.new n }
+{
+    let Some(value) = pop_value(&mut state.operands) else {
+        return Err(Fault::Stuck);
+    };
+    let Some(holds) = truth(&value) else {
+        return Err(Fault::Stuck);
+    };
+    if holds {
+        state.place += 1;
+        Ok(())
+    } else {
+        jump(code, state, label)
+    }
+}
+
 fn give_back(code: &Code, state: &mut State) -> Result<(), Fault>
     ensures { (n : ℕ) → Acts code.now Instruction.Return state.old n result state.new n }
 {
@@ -54,7 +94,14 @@ fn do_plain(alloc: Global, code: &Code, effect: Effect, state: &mut State) -> Re
 }
 
 /// Asks the world.
-fn ask<H: Host>(alloc: Global, code: &Code, native: Native, count: u32, state: &mut State, host: &mut H) -> Result<(), Fault>
+fn ask<H: Host>(
+    alloc: Global,
+    code: &Code,
+    native: Native,
+    count: u32,
+    state: &mut State,
+    host: &mut H,
+) -> Result<(), Fault>
     requires place { state.old.place + 1 < 2 ^ 64 }
     requires here { m.fetch code.now state.old.function state.old.place ≡ Some (Instruction.Native native count) }
     ensures { (n : ℕ) → Steps H.host_step code.now state.old n host.old result state.new n host.new }
@@ -85,13 +132,21 @@ fn ask<H: Host>(alloc: Global, code: &Code, native: Native, count: u32, state: &
 }
 
 /// One instruction.
-pub fn step<H: Host>(alloc: Global, code: &Code, state: &mut State, fuel: &mut u64, host: &mut H) -> Result<(), Fault>
+pub fn step<H: Host>(
+    alloc: Global,
+    code: &Code,
+    state: &mut State,
+    fuel: &mut u64,
+    host: &mut H,
+) -> Result<(), Fault>
     ensures { Steps H.host_step code.now state.old fuel.old host.old result state.new fuel.new host.new }
 {
     match fetch(code, state.function, state.place) {
         None => Err(Fault::Stuck),
         Some(Instruction::Native(native, count)) => ask(alloc, code, native, count, state, host),
         Some(Instruction::Plain(effect)) => do_plain(alloc, code, effect, state),
+        Some(Instruction::Jump(label)) => jump(code, state, label),
+        Some(Instruction::Unless(label)) => unless(code, state, label),
         Some(Instruction::Step) => spend(code, state, fuel),
         Some(Instruction::Return) => give_back(code, state),
     }

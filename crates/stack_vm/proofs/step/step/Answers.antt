@@ -14,3 +14,9 @@ returns-in-Some-Step g c = quiet_steps _ c.args.code.now op.Step c.args.state.no
 
 pub returns-in-Some-Return : goal.returns-in-Some-Return
 returns-in-Some-Return g c = quiet_steps _ c.args.code.now op.Return c.args.state.now _ _ _ _ _ (rw c.in-Some-Return.field-0-is at (sym c.in-Some-Return.ensures.value)) (c.give_back.ensures _)
+
+pub returns-in-Some-Jump : goal.returns-in-Some-Jump
+returns-in-Some-Jump g c = quiet_steps _ c.args.code.now (op.Jump c.in-Some-Jump.label) c.args.state.now _ _ _ _ _ (rw c.in-Some-Jump.field-0-is at (sym c.in-Some-Jump.ensures.value)) (c.jump.ensures _)
+
+pub returns-in-Some-Unless : goal.returns-in-Some-Unless
+returns-in-Some-Unless g c = quiet_steps _ c.args.code.now (op.Unless c.in-Some-Unless.label) c.args.state.now _ _ _ _ _ (rw c.in-Some-Unless.field-0-is at (sym c.in-Some-Unless.ensures.value)) (c.unless.ensures _)
