@@ -1,7 +1,7 @@
 -- Parts that operators join, from the left.
 use Rattle.std.proofs.Common.{◌≡◌, ℕ, List, [], ◌∷◌, ◌++◌, Option, Some, None, refl, sym, ap, ◌∙◌}
 use Rattle.fx8.specs.declared.int_operator.IntOperator.{IntOperator}
-use Rattle.mql_source.specs.declared.tree.Expression.{Expression}
+use Rattle.mql_mean.specs.declared.tree.Expression.{Expression}
 use Rattle.mql_source.specs.declared.token.Token.{Token}
 use Rattle.mql_source.specs.declared.token.Located.{Located}
 use Rattle.mql_source.specs.Reading.{Reading, Reader, ◌>>=◌}

@@ -1,8 +1,8 @@
 -- Arguments and statements that were read, before those of the rest.
 use Rattle.std.proofs.Common.{◌≡◌, ℕ, List, [], ◌∷◌, ◌++◌, Option, Some, None, refl, sym, ap, ◌∙◌, append_assoc}
 use Rattle.std.proofs.lemmas.List.{append-nil}
-use Rattle.mql_source.specs.declared.tree.Expression.{Expression}
-use Rattle.mql_source.specs.declared.tree.Statement.{Statement}
+use Rattle.mql_mean.specs.declared.tree.Expression.{Expression}
+use Rattle.mql_mean.specs.declared.tree.Statement.{Statement}
 use Rattle.mql_source.specs.declared.token.Sign.TheVariants.{CloseRound, CloseCurly, Comma}
 use Rattle.mql_source.specs.declared.token.Located.{Located}
 use Rattle.mql_source.specs.Reading.{Reading, Reader, ◌>>=◌, after}

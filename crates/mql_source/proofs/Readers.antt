@@ -1,9 +1,9 @@
 -- What the readers of the grammar leave, and the equations of those that call themselves.
 use Rattle.std.proofs.Common.{◌≡◌, ℕ, zero, suc, ◌+◌, ◌<◌, ◌≤◌, Bool, true, false, cond, List, [], ◌∷◌, length, Option, Some, None, refl, sym, ap, ◌∙◌, arith}
 use Rattle.fx8.specs.declared.int_operator.IntOperator.{IntOperator}
-use Rattle.mql_source.specs.declared.tree.Expression.{Expression}
-use Rattle.mql_source.specs.declared.tree.Statement.{Statement}
-use Rattle.mql_source.specs.declared.tree.Statement.TheVariants as made
+use Rattle.mql_mean.specs.declared.tree.Expression.{Expression}
+use Rattle.mql_mean.specs.declared.tree.Statement.{Statement}
+use Rattle.mql_mean.specs.declared.tree.Statement.TheVariants as made
 use Rattle.mql_source.specs.declared.token.Sign.{Sign}
 use Rattle.mql_source.specs.declared.token.Sign.TheVariants.{OpenRound, CloseRound, OpenCurly, CloseCurly, Semicolon, Comma, Assign, Minus}
 use Rattle.mql_source.specs.declared.token.Token.{Token}

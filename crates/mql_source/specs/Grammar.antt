@@ -3,10 +3,10 @@ use Rattle.std.specs.Prelude.{ℕ, Bool, true, false, ◌&&◌, if◌then◌else
 use Rattle.fx8.specs.declared.int_kind.IntKind.{IntKind}
 use Rattle.fx8.specs.declared.int_kind.IntKind.TheVariants as kind
 use Rattle.mql_mean.specs.declared.tree.Native.TheVariants as native
-use Rattle.mql_source.specs.declared.tree.Expression.{Expression}
-use Rattle.mql_source.specs.declared.tree.Expression.TheVariants as expression
-use Rattle.mql_source.specs.declared.tree.Statement.{Statement}
-use Rattle.mql_source.specs.declared.tree.Statement.TheVariants as made
+use Rattle.mql_mean.specs.declared.tree.Expression.{Expression}
+use Rattle.mql_mean.specs.declared.tree.Expression.TheVariants as expression
+use Rattle.mql_mean.specs.declared.tree.Statement.{Statement}
+use Rattle.mql_mean.specs.declared.tree.Statement.TheVariants as made
 use Rattle.mql_source.specs.declared.token.Sign.TheVariants.{OpenRound, CloseRound, OpenCurly, CloseCurly, Semicolon, Comma, Assign}
 use Rattle.mql_source.specs.declared.token.Token.{Token}
 use Rattle.mql_source.specs.declared.token.Token.TheVariants.{Void, OnTick, Print, Int, If, While, Mark, Quoted, Local}

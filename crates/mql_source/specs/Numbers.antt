@@ -3,10 +3,10 @@ use Rattle.std.specs.Prelude.{ℕ, pos, Bool, true, false, if◌then◌else◌, 
 use Rattle.fx8.specs.declared.int_kind.IntKind.TheVariants as kind
 use Rattle.fx8.specs.declared.int_operator.IntOperator.{IntOperator}
 use Rattle.fx8.specs.declared.int_operator.IntOperator.TheVariants as binary
-use Rattle.mql_source.specs.declared.tree.UnaryOperator.TheVariants as sign
-use Rattle.mql_source.specs.declared.tree.Operator.TheVariants as operator
-use Rattle.mql_source.specs.declared.tree.Expression.{Expression}
-use Rattle.mql_source.specs.declared.tree.Expression.TheVariants as expression
+use Rattle.mql_mean.specs.declared.tree.UnaryOperator.TheVariants as sign
+use Rattle.mql_mean.specs.declared.tree.Operator.TheVariants as operator
+use Rattle.mql_mean.specs.declared.tree.Expression.{Expression}
+use Rattle.mql_mean.specs.declared.tree.Expression.TheVariants as expression
 use Rattle.mql_source.specs.declared.token.Sign.TheVariants.{OpenRound, CloseRound, Plus, Minus, Times, Divide, Remainder, Less, LessOrEqual, Greater, GreaterOrEqual, Equal, NotEqual}
 use Rattle.mql_source.specs.declared.token.Token.{Token}
 use Rattle.mql_source.specs.declared.token.Token.TheVariants.{Mark, Number, Local, True, False}

@@ -1,7 +1,7 @@
 -- The form of a source of the first level (MQL5 Reference, Language Basics; the limits are our own).
 use Rattle.std.specs.Prelude.{ℕ, ◌&&◌, nat_le, if◌then◌else◌, List, [], ◌∷◌, length, Option, Some, None, codes}
-use Rattle.mql_source.specs.declared.tree.Checked.{Checked}
-use Rattle.mql_source.specs.declared.tree.Statement.{Statement}
+use Rattle.mql_mean.specs.declared.tree.Checked.{Checked}
+use Rattle.mql_mean.specs.declared.tree.Statement.{Statement}
 use Rattle.mql_source.specs.Bytes.{all_ascii}
 use Rattle.fx8.specs.declared.int_kind.IntKind.{IntKind}
 use Rattle.mql_source.specs.Locals.{located_tokens}

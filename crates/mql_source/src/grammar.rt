@@ -3,15 +3,14 @@ ghost use Rattle.std.specs.Prelude.{◌≡◌, ◌<◌, ◌≤◌, [], ◌∷◌
 ghost use Rattle.std.specs.Option.{option_copied};
 ghost use Rattle.mql_source.specs.Reading.{seen, IsShorter};
 ghost use Rattle.mql_source.specs.Grammar.{argument, arguments, block, print, assignment, declaration, item, statement, statements, governed, is_void, is_on_tick, after_name, header, body_of, is_int, locals_of};
-ghost use Rattle.mql_source.specs.declared.tree.Statement.TheVariants as made;
+ghost use Rattle.mql_mean.specs.declared.tree.Statement.TheVariants as made;
 
 use crate::first::after;
 use crate::number::{read_guard, read_number};
 use crate::part::parted;
 use crate::token::{Located, Sign, Token};
-use crate::tree::{Expression, Statement};
 use fx8::{IntKind, ItemList, OutOfMemory, Text};
-use mql_mean::Native;
+use mql_mean::{Expression, Native, Statement};
 use std::alloc::Global;
 
 /// An argument of `Print`: a string or a number.

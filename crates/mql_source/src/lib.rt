@@ -10,7 +10,6 @@ mod scan;
 mod scope;
 mod source;
 mod token;
-pub mod tree;
 mod word;
 
 pub use source::read_source;

@@ -6,8 +6,8 @@ ghost use Rattle.mql_source.specs.Numbers.{literal, negative, applied, truth, br
 use crate::first::{after, first_of_comparison, first_of_product, first_of_sum, is_sign};
 use crate::part::parted;
 use crate::token::{Located, Sign, Token};
-use crate::tree::{Expression, Operator, UnaryOperator};
 use fx8::{IntKind, IntOperator, ItemList, OutOfMemory};
+use mql_mean::{Expression, Operator, UnaryOperator};
 use std::alloc::Global;
 
 /// A literal of the type int.

@@ -5,9 +5,9 @@ ghost use Rattle.mql_source.specs.Source.{checked_of, program_of};
 use crate::front::all_ascii;
 use crate::grammar::{locals_of, read_body};
 use crate::scan::{nest_within, read_tokens};
-use crate::tree::{Checked, Function, Statement};
 use crate::word::units;
 use fx8::{IntKind, ItemList, OutOfMemory};
+use mql_mean::{Checked, Function, Statement};
 use std::alloc::Global;
 
 /// How many bytes a source of this level may have.
