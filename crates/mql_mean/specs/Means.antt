@@ -50,8 +50,8 @@ module _ (fuel : ℕ) where
     does (Block' line row body) n w = bind (lift (set_line line w.store) n w) (λ _ n w. does_row body n w)
     does (Evaluate line e) n w = bind (lift (set_line line w.store) n w) (λ _ n w. bind (value_of e n w) (λ v n w. Go tt n w))
     does (Assign line local e) n w = bind (lift (set_line line w.store) n w) (λ _ n w. bind (value_of e n w) (λ v n w. lift (write local v w.store) n w))
-    does (If' line e p s) n w = bind (lift (set_line line w.store) n w) (λ _ n w. bind (value_of e n w) (λ v n w. bind (lift (truth v w.store) n w) (λ b. choose b (does s) (Go tt))))
-    does (While' line e p s) n w = bind (lift (set_line line w.store) n w) (λ _. turns fuel line (value_of e) (does s))
+    does (If' line e row body) n w = bind (lift (set_line line w.store) n w) (λ _ n w. bind (value_of e n w) (λ v n w. bind (lift (truth v w.store) n w) (λ b. choose b (does_row body) (Go tt))))
+    does (While' line e row body) n w = bind (lift (set_line line w.store) n w) (λ _. turns fuel line (value_of e) (does_row body))
 
     pub does_row : {m : _} → Row_of-Statement m → Act (Unit {0})
     does_row end_of-Statement n w = Go tt n w

@@ -71,8 +71,8 @@ module _ (locals : List IntKind) where
     TypedStatement (Block' line row body) = TypedStatements body
     TypedStatement (Evaluate line e) = Typed e
     TypedStatement (Assign line local e) = Is (slice_get locals local) × (kind_of e ≡ slice_get locals local) × Typed e
-    TypedStatement (If' line e p s) = (kind_of e ≡ Some BoolKind) × Typed e × TypedStatement s
-    TypedStatement (While' line e p s) = (kind_of e ≡ Some BoolKind) × Typed e × TypedStatement s
+    TypedStatement (If' line e row body) = (kind_of e ≡ Some BoolKind) × Typed e × TypedStatements body
+    TypedStatement (While' line e row body) = (kind_of e ≡ Some BoolKind) × Typed e × TypedStatements body
 
     pub TypedStatements : {m : _} → Row_of-Statement m → Type 0
     TypedStatements end_of-Statement = Unit {0}

@@ -1,6 +1,6 @@
 -- What was found so far, before what is read from the rest.
 use Rattle.std.specs.Prelude.{List, ◌++◌, Option, Some, None}
-use Rattle.mql_source.specs.Grammar.{Reading}
+use Rattle.mql_source.specs.Reading.{Reading}
 
 -- tokens found so far, and those of the rest
 abbrev pub before : {A : Type 0} → List A → Option (List A) → Option (List A)

@@ -1,3 +1,7 @@
 pub mod Before
-pub mod Bound
+pub mod Joins
+pub mod Lists
+pub mod Numbers
+pub mod Readers
+pub mod Recursive
 pub mod Steps

@@ -4,3 +4,7 @@ pub mod Nesting
 pub mod Signs
 pub mod Source
 pub mod Tokens
+pub mod Words
+pub mod Locals
+pub mod Reading
+pub mod Numbers

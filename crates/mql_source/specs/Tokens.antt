@@ -1,19 +1,24 @@
 -- The tokens of a text (MQL5 Reference, Language Basics, Syntax).
-use Rattle.std.specs.Prelude.{ℕ, zero, suc, ◌+◌, ◌<◌, ◌==◌, if◌then◌else◌, List, [], ◌∷◌, take, drop, length, Option, Some, None, bytes_eq, codes}
+use Rattle.std.specs.Prelude.{ℕ, zero, suc, ◌+◌, ◌<◌, Bool, ◌||◌, ◌==◌, if◌then◌else◌, List, [], ◌∷◌, take, drop, length, Option, Some, None}
 use Rattle.std.specs.List.{prefix_len}
 use Rattle.mql_source.specs.Bytes.{is_blank, is_word_byte, is_string_byte}
-use Rattle.mql_source.specs.declared.token.Sign.TheVariants.{OpenRound, CloseRound, OpenCurly, CloseCurly, Semicolon, Comma}
-use Rattle.mql_source.specs.declared.token.Token.TheVariants.{Void, OnTick, Print, Mark, Quoted}
+use Rattle.mql_source.specs.Words.{word_token}
+use Rattle.mql_source.specs.declared.token.Sign.{Sign}
+use Rattle.mql_source.specs.declared.token.Sign.TheVariants.{OpenRound, CloseRound, OpenCurly, CloseCurly, Semicolon, Comma, Assign, Plus, Minus, Times, Divide, Remainder, Less, LessOrEqual, Greater, GreaterOrEqual, Equal, NotEqual}
+use Rattle.mql_source.specs.declared.token.Token.{Token}
+use Rattle.mql_source.specs.declared.token.Token.TheVariants.{Mark, Quoted}
 use Rattle.mql_source.specs.declared.token.Located.{Located}
 use Rattle.mql_source.specs.declared.front.Front.{Front}
 use Rattle.mql_source.specs.declared.front.Front.TheVariants.{Blank, LineEnd, Starts, Nothing}
 
--- the token of a word, which is its first byte and so many more
+-- a token, if there is one, of a first byte and so many more
+abbrev pub starts : Option Token → ℕ → Front
+starts None more = Nothing
+starts (Some token) more = Starts token more
+
+-- the front that a word is, of a first byte and so many more
 unfoldable pub word_front : List ℕ → ℕ → Front
-word_front word more =
-    if bytes_eq word (codes "void") then Starts Void more else
-    if bytes_eq word (codes "OnTick") then Starts OnTick more else
-    if bytes_eq word (codes "Print") then Starts Print more else Nothing
+word_front word more = starts (word_token word) more
 
 -- the string whose bytes end before this rest, which begins with its closing quote
 abbrev pub closed : List ℕ → List ℕ → Front
@@ -25,15 +30,48 @@ unfoldable pub string_front : List ℕ → Front
 string_front text =
     let n = prefix_len is_string_byte text in closed (take n text) (drop n text)
 
--- the token of a sign
-unfoldable pub sign_front : ℕ → Front
-sign_front byte =
-    if byte == 40 then Starts (Mark OpenRound) 0 else
-    if byte == 41 then Starts (Mark CloseRound) 0 else
-    if byte == 123 then Starts (Mark OpenCurly) 0 else
-    if byte == 125 then Starts (Mark CloseCurly) 0 else
-    if byte == 59 then Starts (Mark Semicolon) 0 else
-    if byte == 44 then Starts (Mark Comma) 0 else Nothing
+-- signs of one byte and of two
+abbrev pub one : Sign → Front
+one sign = Starts (Mark sign) 0
+
+abbrev pub two : Sign → Front
+two sign = Starts (Mark sign) 1
+
+-- a sign of one byte, unless the next byte makes a longer sign of the language, which this level has not
+abbrev pub alone : Bool → Sign → Front
+alone longer sign = if longer then Nothing else one sign
+
+-- the sign of a byte that is in no longer sign
+unfoldable pub mark_front : ℕ → Front
+mark_front byte =
+    if byte == 40 then one OpenRound else
+    if byte == 41 then one CloseRound else
+    if byte == 123 then one OpenCurly else
+    if byte == 125 then one CloseCurly else
+    if byte == 59 then one Semicolon else
+    if byte == 44 then one Comma else Nothing
+
+-- the longest of the signs `= == < <= << > >= >> !=` that begins with a byte before another
+unfoldable pub comparison_front : (byte next : ℕ) → Front
+comparison_front byte next =
+    if byte == 61 then (if next == 61 then two Equal else one Assign) else
+    if byte == 60 then (if next == 61 then two LessOrEqual else alone (next == 60) Less) else
+    if byte == 62 then (if next == 61 then two GreaterOrEqual else alone (next == 62) Greater) else
+    if byte == 33 then (if next == 61 then two NotEqual else Nothing) else mark_front byte
+
+-- the longest of the signs `+ ++ += - -- -= * *= / /= // /* % %=` that begins with a byte before another
+unfoldable pub sign_front : (byte next : ℕ) → Front
+sign_front byte next =
+    if byte == 43 then alone (next == 43 || next == 61) Plus else
+    if byte == 45 then alone (next == 45 || next == 61) Minus else
+    if byte == 42 then alone (next == 61) Times else
+    if byte == 47 then alone (next == 61 || next == 47 || next == 42) Divide else
+    if byte == 37 then alone (next == 61) Remainder else comparison_front byte next
+
+-- the byte that stands first, 0 at the end
+abbrev pub next_byte : List ℕ → ℕ
+next_byte [] = 0
+next_byte (byte ∷ rest) = byte
 
 -- what stands at the front of a text: a word is the longest run of its bytes
 unfoldable pub front : List ℕ → Front
@@ -42,7 +80,7 @@ front (byte ∷ rest) =
     if is_blank byte then Blank else
     if byte == 10 then LineEnd else
     if is_word_byte byte then (let more = prefix_len is_word_byte rest in word_front (byte ∷ take more rest) more) else
-    if byte == 34 then string_front rest else sign_front byte
+    if byte == 34 then string_front rest else sign_front byte (next_byte rest)
 
 -- a front of a text that is so long
 abbrev pub Within : Front → ℕ → Type 0

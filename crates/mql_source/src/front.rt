@@ -2,10 +2,12 @@
 ghost use Rattle.std.specs.Prelude.{◌≡◌, ℕ, ◌+◌, ◌≤◌, ◌<◌, length, take, IfOk, codes};
 ghost use Rattle.std.specs.List.{prefix_len};
 ghost use Rattle.mql_source.specs.Bytes.{is_ascii, all_ascii, is_between, is_blank, is_word_byte, is_string_byte};
-ghost use Rattle.mql_source.specs.Tokens.{front, word_front, string_front, sign_front, Within};
+ghost use Rattle.mql_source.specs.Tokens.{front, one, two, alone, mark_front, comparison_front, word_front, string_front, sign_front, next_byte, Within};
 
+use crate::part::parted;
 use crate::token::{Sign, Token};
-use fx8::{OutOfMemory, Text};
+use crate::word::{is_between, units, word_token};
+use fx8::OutOfMemory;
 use std::alloc::Global;
 
 /// What stands at the front of a text.
@@ -19,12 +21,6 @@ pub enum Front {
     Starts(Token, usize),
     /// None of these.
     Nothing,
-}
-
-fn is_between(low: u8, high: u8, byte: u8) -> bool
-    ensures { result ≡ is_between low high byte }
-{
-    low <= byte && byte <= high
 }
 
 #[tactic(auto, unfolding(crate::specs::Bytes::is_blank))]
@@ -94,47 +90,96 @@ pub fn all_ascii(text: &[u8]) -> bool
     ascii_length(text) == text.len()
 }
 
-#[tactic(auto, unfolding(crate::specs::Tokens::word_front))]
-fn word_front(word: &[u8], more: usize) -> Front
-    ensures exact { result ≡ word_front word.now more }
-    ensures within { (n : ℕ) → more < n → Within result n }
+/// A sign of one byte.
+fn one(sign: Sign) -> Front
+    ensures exact { result ≡ one sign }
+    ensures within { (n : ℕ) → 0 < n → Within result n }
 {
-    if word == b"void".as_slice() {
-        Front::Starts(Token::Void, more)
-    } else if word == b"OnTick".as_slice() {
-        Front::Starts(Token::OnTick, more)
-    } else if word == b"Print".as_slice() {
-        Front::Starts(Token::Print, more)
-    } else {
-        Front::Nothing
-    }
+    Front::Starts(Token::Mark(sign), 0)
 }
 
-#[tactic(auto, unfolding(crate::specs::Tokens::sign_front))]
-fn sign_front(byte: u8) -> Front
-    ensures exact { result ≡ sign_front byte }
+/// A sign of two bytes.
+fn two(sign: Sign) -> Front
+    ensures exact { result ≡ two sign }
+    ensures within { (n : ℕ) → 1 < n → Within result n }
+{
+    Front::Starts(Token::Mark(sign), 1)
+}
+
+/// A sign of one byte, unless it is the beginning of a longer one that this level has not.
+fn alone(longer: bool, sign: Sign) -> Front
+    ensures exact { result ≡ alone longer sign }
+    ensures within { (n : ℕ) → 0 < n → Within result n }
+{
+    if longer { Front::Nothing } else { one(sign) }
+}
+
+#[tactic(auto, unfolding(crate::specs::Tokens::mark_front))]
+fn mark_front(byte: u8) -> Front
+    ensures exact { result ≡ mark_front byte }
     ensures within { (n : ℕ) → 0 < n → Within result n }
 {
     match byte {
-        b'(' => Front::Starts(Token::Mark(Sign::OpenRound), 0),
-        b')' => Front::Starts(Token::Mark(Sign::CloseRound), 0),
-        b'{' => Front::Starts(Token::Mark(Sign::OpenCurly), 0),
-        b'}' => Front::Starts(Token::Mark(Sign::CloseCurly), 0),
-        b';' => Front::Starts(Token::Mark(Sign::Semicolon), 0),
-        b',' => Front::Starts(Token::Mark(Sign::Comma), 0),
+        b'(' => one(Sign::OpenRound),
+        b')' => one(Sign::CloseRound),
+        b'{' => one(Sign::OpenCurly),
+        b'}' => one(Sign::CloseCurly),
+        b';' => one(Sign::Semicolon),
+        b',' => one(Sign::Comma),
         _ => Front::Nothing,
     }
 }
 
-/// The units of a text of bytes.
-pub fn units(alloc: Global, bytes: &[u8]) -> Result<Text, OutOfMemory>
-    ensures { IfOk result (λ text. text ≡ bytes.now) }
+#[tactic(auto, unfolding(crate::specs::Tokens::comparison_front))]
+fn comparison_front(byte: u8, next: u8) -> Front
+    ensures exact { result ≡ comparison_front byte next }
+    ensures within { (n : ℕ) → 0 < n → (next ≡ 61 → 1 < n) → Within result n }
 {
-    let mut text = Text::new(alloc);
-    for byte in bytes {
-        text.push(u16::from(*byte))?;
+    let longer = next == b'=';
+    match byte {
+        b'=' => if longer { two(Sign::Equal) } else { one(Sign::Assign) },
+        b'<' => if longer { two(Sign::LessOrEqual) } else { alone(next == b'<', Sign::Less) },
+        b'>' => if longer { two(Sign::GreaterOrEqual) } else { alone(next == b'>', Sign::Greater) },
+        b'!' => if longer { two(Sign::NotEqual) } else { Front::Nothing },
+        _ => mark_front(byte),
     }
-    Ok(text)
+}
+
+/// The sign that begins with a byte, before another.
+#[tactic(auto, unfolding(crate::specs::Tokens::sign_front))]
+fn sign_front(byte: u8, next: u8) -> Front
+    ensures exact { result ≡ sign_front byte next }
+    ensures within { (n : ℕ) → 0 < n → (next ≡ 61 → 1 < n) → Within result n }
+{
+    match byte {
+        b'+' => alone(next == b'+' || next == b'=', Sign::Plus),
+        b'-' => alone(next == b'-' || next == b'=', Sign::Minus),
+        b'*' => alone(next == b'=', Sign::Times),
+        b'/' => alone(next == b'=' || next == b'/' || next == b'*', Sign::Divide),
+        b'%' => alone(next == b'=', Sign::Remainder),
+        _ => comparison_front(byte, next),
+    }
+}
+
+fn next_byte(text: &[u8]) -> u8
+    ensures exact { result ≡ next_byte text.now }
+    ensures some { 0 < result → 0 < length text.now }
+{
+    match parted(text) {
+        Some((byte, _)) => *byte,
+        None => 0,
+    }
+}
+
+#[tactic(auto, unfolding(crate::specs::Tokens::word_front))]
+fn word_front(alloc: Global, word: &[u8], more: usize) -> Result<Front, OutOfMemory>
+    ensures exact { IfOk result (λ found. found ≡ word_front word.now more) }
+    ensures within { IfOk result (λ found. (n : ℕ) → more < n → Within found n) }
+{
+    match word_token(alloc, word)? {
+        Some(token) => Ok(Front::Starts(token, more)),
+        None => Ok(Front::Nothing),
+    }
 }
 
 #[tactic(auto, unfolding(crate::specs::Tokens::string_front))]
@@ -166,10 +211,10 @@ pub fn read_front(alloc: Global, text: &[u8]) -> Result<Front, OutOfMemory>
         Ok(Front::LineEnd)
     } else if is_word_byte(*first) {
         let more = word_length(after);
-        Ok(word_front(&text[..more + 1], more))
+        word_front(alloc, &text[..more + 1], more)
     } else if *first == b'"' {
         string_front(alloc, after)
     } else {
-        Ok(sign_front(*first))
+        Ok(sign_front(*first, next_byte(after)))
     }
 }

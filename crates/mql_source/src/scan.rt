@@ -1,20 +1,23 @@
 //! The tokens of a text.
 ghost use Rattle.std.specs.Prelude.{◌≡◌, ◌≤◌, ◌<◌, ◌^◌, ◌+◌, length, IfOk};
-ghost use Rattle.mql_source.specs.Tokens.{tokens};
+ghost use Rattle.mql_source.specs.Locals.{located_tokens};
 ghost use Rattle.mql_source.specs.Nesting.{open_after, nest_within};
 
 use crate::front::{Front, read_front};
 use crate::part::parted;
+use crate::scope::{Scope, numbered};
 use crate::token::{Located, Sign, Token};
 use fx8::{ItemList, OutOfMemory};
 use std::alloc::Global;
 
-/// The tokens of a text; `None` where the text has anything else.
+/// The tokens of a text, with each name as the local that it is; `None` where the text has anything else, or a name
+/// that is declared twice or is not visible.
 pub fn read_tokens(alloc: Global, text: &[u8]) -> Result<Option<ItemList<Located>>, OutOfMemory>
     requires { length text.now ≤ 4096 }
-    ensures { IfOk result (λ found. found ≡ tokens text.now) }
+    ensures { IfOk result (λ found. found ≡ located_tokens text.now) }
 {
     let mut found = ItemList::new(alloc);
+    let mut scope = Scope::new(alloc);
     let mut line: u32 = 1;
     let mut rest = text;
     while let Some((_, after)) = parted(rest) {
@@ -25,6 +28,9 @@ pub fn read_tokens(alloc: Global, text: &[u8]) -> Result<Option<ItemList<Located
                 rest = after;
             }
             Front::Starts(token, more) => {
+                let Some(token) = numbered(&mut scope, token)? else {
+                    return Ok(None);
+                };
                 found.push(Located { token, line })?;
                 rest = &after[more..];
             }

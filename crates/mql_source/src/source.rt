@@ -2,10 +2,11 @@
 ghost use Rattle.std.specs.Prelude.{◌≡◌, IfOk};
 ghost use Rattle.mql_source.specs.Source.{checked_of, program_of};
 
-use crate::front::{all_ascii, units};
-use crate::grammar::read_body;
+use crate::front::all_ascii;
+use crate::grammar::{locals_of, read_body};
 use crate::scan::{nest_within, read_tokens};
-use fx8::{ItemList, OutOfMemory};
+use crate::word::units;
+use fx8::{IntKind, ItemList, OutOfMemory};
 use mql_mean::{Checked, Function, Statement};
 use std::alloc::Global;
 
@@ -16,12 +17,12 @@ const LONGEST: usize = 4096;
 const DEEPEST: u32 = 10;
 
 /// The program of one function `OnTick`.
-fn program_of(alloc: Global, body: ItemList<Statement>) -> Result<Checked, OutOfMemory>
-    ensures { IfOk result (λ checked. checked ≡ program_of body) }
+fn program_of(alloc: Global, locals: ItemList<IntKind>, body: ItemList<Statement>) -> Result<Checked, OutOfMemory>
+    ensures { IfOk result (λ checked. checked ≡ program_of locals body) }
 {
     let name = units(alloc, b"OnTick")?;
     let mut functions = ItemList::new(alloc);
-    functions.push(Function { name, body })?;
+    functions.push(Function { name, locals, body })?;
     Ok(Checked {
         functions,
         tick: Some(0),
@@ -45,6 +46,7 @@ pub fn read_source(alloc: Global, bytes: &[u8]) -> Result<Option<Checked>, OutOf
     let Some(body) = read_body(alloc, tokens.as_slice())? else {
         return Ok(None);
     };
-    let checked = program_of(alloc, body)?;
+    let locals = locals_of(alloc, tokens.as_slice())?;
+    let checked = program_of(alloc, locals, body)?;
     Ok(Some(checked))
 }
