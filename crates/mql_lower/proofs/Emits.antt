@@ -83,10 +83,10 @@ module _ (H H' : ℕ → Instruction → Type 0) (C C' : ℕ → Value → Type 
     statement_map (Block' line row body) a b s = seq_map a b (one_map _) (statements_map body) s
     statement_map (Evaluate line e) a b s = seq_map a b (one_map _) (λ a b. seq_map a b (expression_map e) (go_map (is_void e))) s
     statement_map (Assign line local e) a b s = seq_map a b (one_map _) (λ a b. seq_map a b (expression_map e) (λ a b. seq_map a b (one_map _) (one_map _))) s
-    statement_map (If' line e p s) a b t =
-        label_map a b (λ out a b. seq_map a b (λ a b. seq_map a b (one_map _) λ a b. seq_map a b (expression_map e) λ a b. seq_map a b (one_map _) (statement_map s)) (here_map out)) t
-    statement_map (While' line e p s) a b t =
-        label_map a b (λ out a b. seq_map a b (λ a b. seq_map a b (one_map _) λ a b. label_map a b λ top a b. seq_map a b (here_map top) λ a b. seq_map a b (one_map _) λ a b. seq_map a b (expression_map e) λ a b. seq_map a b (one_map _) λ a b. seq_map a b (statement_map s) λ a b. seq_map a b (one_map _) (one_map _)) (here_map out)) t
+    statement_map (If' line e row body) a b t =
+        label_map a b (λ out a b. seq_map a b (λ a b. seq_map a b (one_map _) λ a b. seq_map a b (expression_map e) λ a b. seq_map a b (one_map _) (statements_map body)) (here_map out)) t
+    statement_map (While' line e row body) a b t =
+        label_map a b (λ out a b. seq_map a b (λ a b. seq_map a b (one_map _) λ a b. label_map a b λ top a b. seq_map a b (here_map top) λ a b. seq_map a b (one_map _) λ a b. seq_map a b (expression_map e) λ a b. seq_map a b (one_map _) λ a b. seq_map a b (statements_map body) λ a b. seq_map a b (one_map _) (one_map _)) (here_map out)) t
 
     pub statements_map : {m : _} (ss : Row_of-Statement m) (a b : ℕ) → StatementsAt H C L ss a b → StatementsAt H' C' L' ss a b
     statements_map end_of-Statement a b s = s
@@ -303,6 +303,18 @@ block_emits r line body d d1 d2 a h =
     let row = block_row (y.Block line body) in
     record { grown = s.grown; is = record { mid = s.is.mid; fst = s.is.fst; snd = statements_stand row.0 row.1 d2 _ _ (subst (λ l. body_in l d2 s.is.mid (length d2.instructions)) (sym (items_hidden-the_row-Statement-0 body)) s.is.snd) } })
     h
+
+-- the statements of a block, of an `if` and of a loop, as they stand in the tree
+abbrev pub row_in : List Statement → Draft → Span
+row_in ss d = StatementsAt (Has d) (Holds d) (Labelled d) (block_row (y.Block 0 ss)).1
+
+pub row_mono : (ss : List Statement) → Mono (row_in ss)
+row_mono ss d d' l a b t = statements_map (Has d) (Has d') (Holds d) (Holds d') (Labelled d) (Labelled d') l.instructions l.code.constants l.labels (block_row (y.Block 0 ss)).1 a b t
+
+pub row_emits : (ss : List Statement) (d d1 : Draft) → Emits (body_in ss) d d1 → Emits (row_in ss) d d1
+row_emits ss d d1 t =
+    let row = block_row (y.Block 0 ss) in
+    record { grown = t.grown; is = statements_stand row.0 row.1 d1 _ _ (subst (λ l. body_in l d1 (length d.instructions) (length d1.instructions)) (sym (items_hidden-the_row-Statement-0 ss)) t.is) }
 
 pub evaluate_emits : {E : Type 0} (r : Result (Unit {0}) E) (line : ℕ) (e : Expression) (d d1 d2 d3 : Draft) → Adds (op.Plain (ef.Line line)) d d1 → Emits (expression_in e) d1 d2 → OnOk r (Emits (let_go_in e) d2 d3) → OnOk r (Emits (statement_in (y.Evaluate line e)) d d3)
 evaluate_emits r line e d d1 d2 d3 a b h =

@@ -293,18 +293,18 @@ module _ (code : Code) where
             λ _ n w le. then_runs b _ _ _ _ _ (value_runs locals e at.mid at.snd.mid ops b n w (number_value locals e (subst (λ (o : Option IntKind). Is o) (sym t.1) t.0)) t.2 at.snd.fst le)
             λ v n w le. from_runs b _ _ _ _ (goes_on _ _ (one (op.Plain (ef.Local local)) at.snd.mid at.snd.snd.mid (Val v ∷ ops) n w at.snd.snd.fst ∙ ap (λ p. On fn p (At local ∷ Val v ∷ ops) n w) at.snd.snd.fst.next))
             (one_runs b (op.Plain ef.Write) at.snd.snd.mid pc' (write local v w.store) (λ _. ops) (At local ∷ Val v ∷ ops) n w at.snd.snd.snd le refl)
-        statement_runs (If' line e p s) pc pc' ops b t at lb n w le =
+        statement_runs (If' line e row body) pc pc' ops b t at lb n w le =
             let a = at.is.fst in let out = at.is.snd in
             then_runs b _ _ _ _ _ (line_runs b line pc a.mid ops n w a.fst le)
             λ _ n w le. then_runs b _ _ _ _ _ (value_runs locals e a.mid a.snd.mid ops b n w (bool_value e _ t.0) t.1 a.snd.fst le)
             λ v n w le. unless_runs b at.label a.snd.mid a.snd.snd.mid pc' v ops n w _ _ _ a.snd.snd.fst out.at le
-            (λ n w le. subst (λ p. Runs b (On fn a.snd.snd.mid ops n w) (does d s n w) (λ _ n w. On fn p ops n w)) out.same (statement_runs s a.snd.snd.mid at.is.mid ops b t.2 a.snd.snd.snd lb n w le))
+            (λ n w le. subst (λ p. Runs b (On fn a.snd.snd.mid ops n w) (does_row d body n w) (λ _ n w. On fn p ops n w)) out.same (statements_run body a.snd.snd.mid at.is.mid ops b t.2 a.snd.snd.snd lb n w le))
             (λ n w le. done_runs b _ tt n w _ le (stays _ _ refl))
-        statement_runs (While' line e p s) pc pc' ops b t at lb n w le =
+        statement_runs (While' line e row body) pc pc' ops b t at lb n w le =
             let a = at.is.fst in let out = at.is.snd in let l = a.snd in let h = l.is.fst in let a1 = l.is.snd in let a2 = a1.snd in let a3 = a2.snd in let a4 = a3.snd in let a5 = a4.snd in
             then_runs b _ _ _ _ _ (line_runs b line pc a.mid ops n w a.fst le)
             λ _ n w le. from_runs b _ _ _ _ (stays _ _ (ap (λ p. On fn p ops n w) h.same))
-            (loop_runs d b line e (does d s) l.label at.label l.is.mid a1.mid a2.mid a3.mid a4.mid a5.mid at.is.mid pc' ops (bool_value e _ t.0) t.1 h.at out.at a1.fst a2.fst a3.fst a5.fst a5.snd (λ a la. statement_runs s a3.mid a4.mid ops a t.2 a4.fst la) lb (omega arith) n w le)
+            (loop_runs d b line e (does_row d body) l.label at.label l.is.mid a1.mid a2.mid a3.mid a4.mid a5.mid at.is.mid pc' ops (bool_value e _ t.0) t.1 h.at out.at a1.fst a2.fst a3.fst a5.fst a5.snd (λ a la. statements_run body a3.mid a4.mid ops a t.2 a4.fst la) lb (omega arith) n w le)
 
         statements_run : {m : _} (ss : Row_of-Statement m) (pc pc' : ℕ) (ops : List Operand) (b : ℕ) → TypedStatements locals ss → StatementsAt HasIn HoldsHere LabelIn ss pc pc' → b ≤ d → Goal pc pc' ops b (does_row d ss)
         statements_run end_of-Statement pc pc' ops b t at lb n w le = done_runs b _ tt n w _ le (stays _ _ (ap (λ p. On fn p ops n w) at))

@@ -142,12 +142,12 @@ module _ (H : ℕ → Instruction → Type 0) (C : ℕ → Value → Type 0) (L 
     statement_le (Block' line row body) a b t = seq_le _ _ a b (one_le _) (statements_le body) t
     statement_le (Evaluate line e) a b t = seq_le _ _ a b (one_le _) (λ a b. seq_le _ _ a b (expression_le e) (go_le (is_void e))) t
     statement_le (Assign line local e) a b t = seq_le _ _ a b (one_le _) (λ a b. seq_le _ _ a b (expression_le e) (λ a b. seq_le _ _ a b (one_le _) (one_le _))) t
-    statement_le (If' line e p s) a b t =
-        let u = seq_le _ _ a t.is.mid (one_le _) (λ a b. seq_le _ _ a b (expression_le e) (λ a b. seq_le _ _ a b (one_le _) (statement_le s))) t.is.fst in omega (arith, u, t.is.snd.same)
-    statement_le (While' line e p s) a b t =
+    statement_le (If' line e row body) a b t =
+        let u = seq_le _ _ a t.is.mid (one_le _) (λ a b. seq_le _ _ a b (expression_le e) (λ a b. seq_le _ _ a b (one_le _) (statements_le body))) t.is.fst in omega (arith, u, t.is.snd.same)
+    statement_le (While' line e row body) a b t =
         let l = t.is.fst.snd in
         let q = one_le _ a t.is.fst.mid t.is.fst.fst in
-        let u = seq_le _ _ l.is.mid t.is.mid (one_le _) (λ a b. seq_le _ _ a b (expression_le e) (λ a b. seq_le _ _ a b (one_le _) (λ a b. seq_le _ _ a b (statement_le s) (λ a b. seq_le _ _ a b (one_le _) (one_le _))))) l.is.snd in
+        let u = seq_le _ _ l.is.mid t.is.mid (one_le _) (λ a b. seq_le _ _ a b (expression_le e) (λ a b. seq_le _ _ a b (one_le _) (λ a b. seq_le _ _ a b (statements_le body) (λ a b. seq_le _ _ a b (one_le _) (one_le _))))) l.is.snd in
         omega (arith, q, u, l.is.fst.same, t.is.snd.same)
 
     statements_le : {m : _} (ss : Row_of-Statement m) (a b : ℕ) → StatementsAt H C L ss a b → a ≤ b
@@ -315,25 +315,25 @@ module _ (code : Code) (c : FunctionCode) (last : ℕ) (end : last + 1 ≡ lengt
         then_sound pc at.mid pc' [] [] [] (line_sound line pc at.mid at.fst (omega (arith, q1, a.snd.fst.next, a.snd.snd.next, le)))
         (then_sound at.mid a.mid pc' [] (NumberKind k.0 ∷ []) [] (number_sound e k.0 at.mid a.mid (t.1 ∙ k.1) t.2 a.fst (omega (arith, a.snd.fst.next, a.snd.snd.next, le)))
         (assign_sound None local a.mid a.snd.mid pc' k.0 k.1 a.snd.fst a.snd.snd le))
-    statement_sound (If' line e p s) pc pc' t at le =
+    statement_sound (If' line e row body) pc pc' t at le =
         let a = at.is.fst in let h = at.is.snd in
         let q1 = expression_le H C L e a.mid a.snd.mid a.snd.fst in
-        let q3 = statement_le H C L s a.snd.snd.mid at.is.mid a.snd.snd.snd in
-        let inner = statement_sound s a.snd.snd.mid at.is.mid t.2 a.snd.snd.snd (omega (arith, h.same, le)) in
+        let q3 = statements_le H C L body a.snd.snd.mid at.is.mid a.snd.snd.snd in
+        let inner = statements_sound body a.snd.snd.mid at.is.mid t.2 a.snd.snd.snd (omega (arith, h.same, le)) in
         then_sound pc a.mid pc' [] [] [] (line_sound line pc a.mid a.fst (omega (arith, q1, q3, a.snd.snd.fst.next, h.same, le)))
         (then_sound a.mid a.snd.mid pc' [] (NumberKind BoolKind ∷ []) [] (number_sound e BoolKind a.mid a.snd.mid t.0 t.1 a.snd.fst (omega (arith, q3, a.snd.snd.fst.next, h.same, le)))
         (then_sound a.snd.mid a.snd.snd.mid pc' (NumberKind BoolKind ∷ []) [] [] (unless_sound BoolKind at.label a.snd.mid a.snd.snd.mid pc' a.snd.snd.fst (omega (arith, q3, h.same, le)) h.at le (omega (arith, q3, a.snd.snd.fst.next, h.same)) (λ g. subst (λ p. At p []) h.same (inner.comes g)))
         (then_sound a.snd.snd.mid at.is.mid pc' [] [] [] inner (nothing_sound at.is.mid pc' [] h.same))))
-    statement_sound (While' line e p s) pc pc' t at le =
+    statement_sound (While' line e row body) pc pc' t at le =
         let a = at.is.fst in let out = at.is.snd in let l = a.snd in let top = l.is.fst in let a1 = l.is.snd in let a2 = a1.snd in let a3 = a2.snd in let a4 = a3.snd in let a5 = a4.snd in
         let q2 = expression_le H C L e a1.mid a2.mid a2.fst in
-        let q4 = statement_le H C L s a3.mid a4.mid a4.fst in
+        let q4 = statements_le H C L body a3.mid a4.mid a4.fst in
         let n1 = a1.fst.next in let n3 = a3.fst.next in let n5 = a5.fst.next in let n6 = a5.snd.next in
         then_sound pc a.mid pc' [] [] [] (line_sound line pc a.mid a.fst (omega (arith, q2, q4, n1, n3, n5, n6, top.same, out.same, le)))
         (then_sound a.mid l.is.mid pc' [] [] [] (nothing_sound a.mid l.is.mid [] top.same)
         (looped (At l.is.mid []) l.is.mid pc' (λ g. g) λ start.
         let jump = one_sound (op.Jump l.label) a5.mid at.is.mid [] [] a5.snd (omega (arith, out.same, le)) refl (λ h g w. record { to = l.is.mid; there = top.at; within = omega (arith, q2, q4, n1, n3, n5, n6, out.same, le, end); kinds = start; back = λ b. a1.fst.at }) in
-        let rest = then_sound a3.mid a4.mid pc' [] [] [] (statement_sound s a3.mid a4.mid t.2 a4.fst (omega (arith, n5, n6, out.same, le)))
+        let rest = then_sound a3.mid a4.mid pc' [] [] [] (statements_sound body a3.mid a4.mid t.2 a4.fst (omega (arith, n5, n6, out.same, le)))
         (then_sound a4.mid a5.mid pc' [] [] [] (line_sound line a4.mid a5.mid a5.fst (omega (arith, n6, out.same, le)))
         (then_sound a5.mid at.is.mid pc' [] [] [] jump (nothing_sound at.is.mid pc' [] out.same))) in
         then_sound l.is.mid a1.mid pc' [] [] [] (one_sound op.Step l.is.mid a1.mid [] [] a1.fst (omega (arith, q2, q4, n3, n5, n6, out.same, le)) refl (λ h g w. w))

@@ -77,8 +77,8 @@ module _ (Has : ℕ → Instruction → Type 0) (Holds : ℕ → Value → Type 
     StatementAt (Block' line row body) = One (op.Plain (ef.Line line)) ▷ StatementsAt body
     StatementAt (Evaluate line e) = One (op.Plain (ef.Line line)) ▷ ExpressionAt e ▷ LetGo (is_void e)
     StatementAt (Assign line local e) = One (op.Plain (ef.Line line)) ▷ ExpressionAt e ▷ One (op.Plain (ef.Local local)) ▷ One (op.Plain ef.Write)
-    StatementAt (If' line e p s) = WithLabel λ out. (One (op.Plain (ef.Line line)) ▷ ExpressionAt e ▷ One (op.Unless out) ▷ StatementAt s) ▷ Here out
-    StatementAt (While' line e p s) = WithLabel λ out. (One (op.Plain (ef.Line line)) ▷ WithLabel λ top. Here top ▷ One op.Step ▷ ExpressionAt e ▷ One (op.Unless out) ▷ StatementAt s ▷ One (op.Plain (ef.Line line)) ▷ One (op.Jump top)) ▷ Here out
+    StatementAt (If' line e row body) = WithLabel λ out. (One (op.Plain (ef.Line line)) ▷ ExpressionAt e ▷ One (op.Unless out) ▷ StatementsAt body) ▷ Here out
+    StatementAt (While' line e row body) = WithLabel λ out. (One (op.Plain (ef.Line line)) ▷ WithLabel λ top. Here top ▷ One op.Step ▷ ExpressionAt e ▷ One (op.Unless out) ▷ StatementsAt body ▷ One (op.Plain (ef.Line line)) ▷ One (op.Jump top)) ▷ Here out
 
     pub StatementsAt : {m : _} → Row_of-Statement m → Span
     StatementsAt end_of-Statement = Nothing

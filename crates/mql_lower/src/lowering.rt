@@ -75,15 +75,15 @@ fn statement(alloc: Global, draft: &mut Draft, s: &Statement) -> Result<(), OutO
             put(draft, Instruction::Plain(Effect::Local(*local)))?;
             put(draft, Instruction::Plain(Effect::Write))
         }
-        Statement::If(line, e, s) => {
+        Statement::If(line, e, body) => {
             let out = new_label(draft)?;
             put(draft, Instruction::Plain(Effect::Line(*line)))?;
             expression(alloc, draft, e)?;
             put(draft, Instruction::Unless(out))?;
-            statement(alloc, draft, s)?;
+            block(alloc, draft, body.as_slice())?;
             set_label(draft, out)
         }
-        Statement::While(line, e, s) => {
+        Statement::While(line, e, body) => {
             let out = new_label(draft)?;
             put(draft, Instruction::Plain(Effect::Line(*line)))?;
             let top = new_label(draft)?;
@@ -91,7 +91,7 @@ fn statement(alloc: Global, draft: &mut Draft, s: &Statement) -> Result<(), OutO
             put(draft, Instruction::Step)?;
             expression(alloc, draft, e)?;
             put(draft, Instruction::Unless(out))?;
-            statement(alloc, draft, s)?;
+            block(alloc, draft, body.as_slice())?;
             put(draft, Instruction::Plain(Effect::Line(*line)))?;
             put(draft, Instruction::Jump(top))?;
             set_label(draft, out)

@@ -49,7 +49,8 @@ fn print(alloc: Global) -> Result<Statement, OutOfMemory>
 fn turns(alloc: Global) -> Result<Statement, OutOfMemory>
     ensures { IfOk result (TypedStatement []) }
 {
-    let turn = Box::new(alloc, Statement::Empty(2))?;
+    let mut turn = ItemList::new(alloc);
+    turn.push(Statement::Empty(2))?;
     Ok(Statement::While(2, Expression::Number(IntKind::Bool, 1), turn))
 }
 
