@@ -61,6 +61,10 @@ abbrev pub none_of : List Value → Bool
 none_of [] = true
 none_of (v ∷ vs) = false
 
+-- the native functions that give no value
+abbrev pub native_void : Native → Bool
+native_void Print = true
+
 -- the replies that a native function may give: Print is void and has no reference arguments
 abbrev pub gives : Native → Reply → Bool
 gives Print reply = is_void reply.value && none_of reply.outs

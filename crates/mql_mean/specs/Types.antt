@@ -2,14 +2,9 @@
 use Rattle.std.specs.Prelude.{◌≡◌, ℕ, ◌<◌, Bool, true, false, List, [], ◌∷◌, length, Option, Some, None, slice_get}
 use Rattle.mql_mean.specs.declared.tree.Expression.{Expression, Text, Native', Row_of-Expression, end_of-Expression, more_of-Expression}
 use Rattle.mql_mean.specs.declared.tree.Statement.{Statement, Empty, Block', Evaluate, Row_of-Statement, end_of-Statement, more_of-Statement}
-use Rattle.mql_mean.specs.declared.tree.Native.{Native}
-use Rattle.mql_mean.specs.declared.tree.Native.TheVariants.{Print}
+use Rattle.mql_mean.specs.Natives.{native_void}
 use Rattle.mql_mean.specs.declared.tree.Function.{Function}
 use Rattle.mql_mean.specs.declared.tree.Checked.{Checked}
-
--- the native functions that give no value
-abbrev pub native_void : Native → Bool
-native_void Print = true
 
 -- an expression that gives no value
 abbrev pub is_void : Expression → Bool

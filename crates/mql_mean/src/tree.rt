@@ -1,7 +1,9 @@
 //! The checked tree of a program.
 ghost use Rattle.std.specs.Prelude.{◌≡◌};
-ghost use Rattle.mql_mean.specs.Natives.{native_number};
+ghost use Rattle.mql_mean.specs.Natives.{native_number, native_void, takes};
+ghost use Rattle.mql_mean.specs.Types.{is_void};
 
+use crate::value::{ValueList, all_print};
 use fx8::{ItemList, Text};
 
 /// A native function.
@@ -18,6 +20,24 @@ impl Native {
     {
         match self {
             Native::Print => 49,
+        }
+    }
+
+    /// Whether it gives no value.
+    pub fn is_void(self) -> bool
+        ensures { result ≡ native_void self }
+    {
+        match self {
+            Native::Print => true,
+        }
+    }
+
+    /// Whether it takes these arguments.
+    pub fn takes(self, args: &ValueList) -> bool
+        ensures { result ≡ takes self args.now }
+    {
+        match self {
+            Native::Print => all_print(args.as_slice()),
         }
     }
 }
@@ -41,6 +61,18 @@ pub enum Expression {
     Text(Text),
     /// A call of a native function with its arguments.
     Native(Native, ItemList<Expression>),
+}
+
+impl Expression {
+    /// Whether it gives no value.
+    pub fn is_void(&self) -> bool
+        ensures { result ≡ is_void self.now }
+    {
+        match self {
+            Expression::Text(_) => false,
+            Expression::Native(native, _) => native.is_void(),
+        }
+    }
 }
 
 /// A statement, with its line.

@@ -1,4 +1,6 @@
 //! Values.
+ghost use Rattle.std.specs.Prelude.{◌≡◌};
+ghost use Rattle.mql_mean.specs.Natives.{all_print, prints};
 
 use fx8::{Fix8, IntKind, ItemList, Text};
 
@@ -21,3 +23,27 @@ pub enum Value {
 
 /// Values in order.
 pub type ValueList = ItemList<Value>;
+
+impl Value {
+    /// Whether it can be printed: a number, a double or a string.
+    pub fn prints(&self) -> bool
+        ensures { result ≡ prints self.now }
+    {
+        match self {
+            Value::Num(_, _) | Value::Dbl(_) | Value::Str(_) => true,
+            Value::Ptr(_) | Value::Arr(_) | Value::Rec(_) => false,
+        }
+    }
+}
+
+/// Whether each of the values can be printed.
+pub fn all_print(values: &[Value]) -> bool
+    ensures { result ≡ all_print values.now }
+{
+    for value in values {
+        if !value.prints() {
+            return false;
+        }
+    }
+    true
+}

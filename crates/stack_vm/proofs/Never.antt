@@ -142,7 +142,7 @@ module _ (code : Code) (valid : IsValid code) (function place : ℕ) (ops : List
       let fine = (valid.functions function f.function_code f.there).fine place i.0 i.1 in
       let e : fetch code function place ≡ Some i.0 = ap (λ o. then_some o (λ c. slice_get c.instructions place)) f.there ∙ i.1 in
       subst (λ o. Runs code (act code o function place ops n (world store calls answers))) (sym e)
-        (fine_runs i.0 fine.before n calls answers i.1 (some_is _ _ (sym fine.here ∙ f.kinds)) fine.works fine.leads)
+      (fine_runs i.0 fine.before n calls answers i.1 (some_is _ _ (sym fine.here ∙ f.kinds)) fine.works fine.leads)
 
 module _ {H : Type 0} (may : H → HostCall → Answer → H → Type 0) (code : Code) (valid : IsValid code) (s : State) (n : ℕ) (h h' : H) (f : Runs code (on s n [] [])) where
   pub steps_run : (s' : State) (n' : ℕ) → Stepped may code s n h h' (on s' n') → Runs code (on s' n' [] [])

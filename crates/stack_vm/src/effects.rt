@@ -48,7 +48,13 @@ fn constant_of(alloc: Global, code: &Code, number: u32) -> Result<Value, Fault>
     }
 }
 
-fn do_const(alloc: Global, code: &Code, number: u32, operands: &mut Stack<Operand>, store: &Store) -> Result<(), Fault>
+fn do_const(
+    alloc: Global,
+    code: &Code,
+    number: u32,
+    operands: &mut Stack<Operand>,
+    store: &Store,
+) -> Result<(), Fault>
     ensures { Leaves (m.effect code.now (Effect.Const number) operands.old) operands.new store.now result store.now }
 {
     let value = constant_of(alloc, code, number)?;
@@ -65,7 +71,13 @@ fn do_drop(code: &Code, operands: &mut Stack<Operand>, store: &Store) -> Result<
 }
 
 /// An effect.
-pub fn plain(alloc: Global, code: &Code, effect: Effect, operands: &mut Stack<Operand>, store: &mut Store) -> Result<(), Fault>
+pub fn plain(
+    alloc: Global,
+    code: &Code,
+    effect: Effect,
+    operands: &mut Stack<Operand>,
+    store: &mut Store,
+) -> Result<(), Fault>
     ensures { Leaves (m.effect code.now effect operands.old) operands.new store.old result store.new }
 {
     match effect {
@@ -76,7 +88,11 @@ pub fn plain(alloc: Global, code: &Code, effect: Effect, operands: &mut Stack<Op
 }
 
 /// Takes so many values, of which the last one was topmost.
-pub fn take_values(alloc: Global, operands: &mut Stack<Operand>, count: u32) -> Result<ValueList, Fault>
+pub fn take_values(
+    alloc: Global,
+    operands: &mut Stack<Operand>,
+    count: u32,
+) -> Result<ValueList, Fault>
     ensures { Took result (m.take_values count operands.old []) operands.new }
 {
     let mut values = Stack::new(alloc);

@@ -27,7 +27,13 @@ pub enum End {
 }
 
 /// Runs from a place of valid code to an end.
-fn run<H: Host>(alloc: Global, code: &Code, state: &mut State, fuel: &mut u64, host: &mut H) -> Result<End, OutOfMemory>
+fn run<H: Host>(
+    alloc: Global,
+    code: &Code,
+    state: &mut State,
+    fuel: &mut u64,
+    host: &mut H,
+) -> Result<End, OutOfMemory>
     requires valid { IsValid code.now }
     requires fits { Runs code.now (on state.old fuel.old [] []) }
     ensures { IfOk result (λ e. Run H.host_step code.now (λ answers. on state.old fuel.old [] answers) host.old host.new (over (as_ended e) state.new.store fuel.new)) }
@@ -95,7 +101,14 @@ impl Machine {
     }
 
     /// Runs an entry of a program with an argument, for at most `fuel` steps, over a host.
-    pub fn call<H: Host>(&mut self, program: &Program, entry: Entry, arg: i32, fuel: &mut u64, host: &mut H) -> Result<End, OutOfMemory>
+    pub fn call<H: Host>(
+        &mut self,
+        program: &Program,
+        entry: Entry,
+        arg: i32,
+        fuel: &mut u64,
+        host: &mut H,
+    ) -> Result<End, OutOfMemory>
         requires { IsTrue (has_entry program.now entry) }
         ensures { IfOk result (λ e. Ends H.host_step program.now entry arg self.old fuel.old host.old host.new e self.new fuel.new) }
     {

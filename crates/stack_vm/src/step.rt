@@ -54,7 +54,14 @@ fn do_plain(alloc: Global, code: &Code, effect: Effect, state: &mut State) -> Re
 }
 
 /// Asks the world.
-fn ask<H: Host>(alloc: Global, code: &Code, native: Native, count: u32, state: &mut State, host: &mut H) -> Result<(), Fault>
+fn ask<H: Host>(
+    alloc: Global,
+    code: &Code,
+    native: Native,
+    count: u32,
+    state: &mut State,
+    host: &mut H,
+) -> Result<(), Fault>
     requires place { state.old.place + 1 < 2 ^ 64 }
     requires here { m.fetch code.now state.old.function state.old.place ≡ Some (Instruction.Native native count) }
     ensures { (n : ℕ) → Steps H.host_step code.now state.old n host.old result state.new n host.new }
@@ -85,7 +92,13 @@ fn ask<H: Host>(alloc: Global, code: &Code, native: Native, count: u32, state: &
 }
 
 /// One instruction.
-pub fn step<H: Host>(alloc: Global, code: &Code, state: &mut State, fuel: &mut u64, host: &mut H) -> Result<(), Fault>
+pub fn step<H: Host>(
+    alloc: Global,
+    code: &Code,
+    state: &mut State,
+    fuel: &mut u64,
+    host: &mut H,
+) -> Result<(), Fault>
     ensures { Steps H.host_step code.now state.old fuel.old host.old result state.new fuel.new host.new }
 {
     match fetch(code, state.function, state.place) {

@@ -1,0 +1,272 @@
+-- Code that the lowering writes.
+use Rattle.std.proofs.Common.{◌≡◌, ℕ, zero, suc, ◌+◌, ◌<◌, ◌≤◌, Bool, true, false, List, [], ◌∷◌, ◌++◌, length, Option, Some, None, Result, Ok, Err, refl, sym, ap, ◌∙◌, subst, arith, length-append}
+use Rattle.std.specs.Prelude.{slice_get, OnOk}
+use Rattle.std.proofs.Math.Seq.{get_or-append_seam}
+use Rattle.std.proofs.lemmas.List.{get_or_append_left}
+use Rattle.std.proofs.lemmas.Option.{slice_get-get_or, slice_get_within, get_or_from_slice_get}
+use mathlib.Core.Former.{Count}
+use Rattle.mql_mean.specs.declared.value.Value.{Value}
+use Rattle.mql_mean.specs.declared.value.Value.TheVariants.{Str}
+use Rattle.mql_mean.specs.declared.tree.Native.{Native}
+use Rattle.mql_mean.specs.declared.tree.Expression.{Expression, Text, Native', Row_of-Expression, end_of-Expression, more_of-Expression, items-the_row-Expression, items_hidden-the_row-Expression-0}
+use Rattle.mql_mean.specs.declared.tree.Expression.TheVariants as x
+use Rattle.mql_mean.specs.declared.tree.Statement.{Statement, Empty, Block', Evaluate, Row_of-Statement, end_of-Statement, more_of-Statement, items-the_row-Statement, items_hidden-the_row-Statement-0}
+use Rattle.mql_mean.specs.declared.tree.Statement.TheVariants as y
+use Rattle.mql_mean.specs.Types.{is_void}
+use Rattle.stack_vm.specs.declared.code.Code.{Code}
+use Rattle.stack_vm.specs.declared.code.Constant.{Constant}
+use Rattle.stack_vm.specs.declared.code.Constant.TheVariants as constant
+use Rattle.stack_vm.specs.declared.code.Instruction.{Instruction}
+use Rattle.stack_vm.specs.declared.code.Instruction.TheVariants as op
+use Rattle.stack_vm.specs.declared.code.Effect.TheVariants as ef
+use Rattle.stack_vm.specs.Machine.{then_some, constant_value, constant_of}
+use Rattle.mql_lower.specs.declared.draft.Draft.{Draft}
+use Rattle.mql_lower.specs.Stands.{Span, ◌▷◌, Nothing, count, One, Constant as ConstantAt, ExpressionAt, RowAt, LetGo, StatementAt, StatementsAt, BodyAt}
+use Rattle.mql_lower.specs.Draft.{Has, Holds, expression_in, arguments_in, let_go_in, statement_in, body_in, Keeps, Later, Emits, Adds, NewText, NewConstant}
+
+-- what a chain of look-ups found
+abbrev IsNone : {A : Type 0} → Option A → Type 0
+IsNone None = Unit {0}
+IsNone (Some a) = ⊥
+
+pub then_is : {A B : Type 0} (o : Option A) (f : A → Option B) (v : B) → then_some o f ≡ Some v → (a : A) × (o ≡ Some a) × (f a ≡ Some v)
+then_is None f v e = absurd (subst (λ (o : Option _). IsNone o) e (tt {0}))
+then_is (Some a) f v e = (a, refl, e)
+
+-- the item at the end
+pub slice_get_seam : {A : Type 0} (xs : List A) (x : A) (ys : List A) → slice_get (xs ++ x ∷ ys) (length xs) ≡ Some x
+slice_get_seam xs x ys = slice_get-get_or (xs ++ x ∷ ys) (length xs) x (omega (arith, length-append xs (x ∷ ys))) ∙ ap Some (get_or-append_seam xs x ys x)
+
+pub slice_get_more : {A : Type 0} (xs ys : List A) (k : ℕ) (x : A) → slice_get xs k ≡ Some x → slice_get (xs ++ ys) k ≡ Some x
+slice_get_more xs ys k x e =
+    let w = slice_get_within xs k x e in
+    slice_get-get_or (xs ++ ys) k x (omega (arith, w, length-append xs ys)) ∙ ap Some (get_or_append_left xs ys x k w ∙ get_or_from_slice_get xs k x x e)
+
+-- what stands keeps standing
+pub seq_map : {A A' B B' : ℕ → ℕ → Type 0} (pc pc' : ℕ) → ((a b : ℕ) → A a b → A' a b) → ((a b : ℕ) → B a b → B' a b) → (A ▷ B) pc pc' → (A' ▷ B') pc pc'
+seq_map pc pc' f g s = record { mid = s.mid; fst = f pc s.mid s.fst; snd = g s.mid pc' s.snd }
+
+module _ (H H' : ℕ → Instruction → Type 0) (C C' : ℕ → Value → Type 0) (f : (pc : ℕ) (i : Instruction) → H pc i → H' pc i) (g : (k : ℕ) (v : Value) → C k v → C' k v) where
+  pub one_map : (i : Instruction) (a b : ℕ) → One H C i a b → One H' C' i a b
+  one_map i a b s = record { at = f a i s.at; next = s.next }
+
+  constant_map : (v : Value) (a b : ℕ) → ConstantAt H C v a b → ConstantAt H' C' v a b
+  constant_map v a b s = record { number = s.number; holds = g s.number v s.holds; one = one_map _ a b s.one }
+
+  mutual
+    pub expression_map : (e : Expression) (a b : ℕ) → ExpressionAt H C e a b → ExpressionAt H' C' e a b
+    expression_map (Text s) a b t = constant_map (Str s) a b t
+    expression_map (Native' native row args) a b t = seq_map a b (row_map args) (one_map _) t
+
+    pub row_map : {m : _} (es : Row_of-Expression m) (a b : ℕ) → RowAt H C es a b → RowAt H' C' es a b
+    row_map end_of-Expression a b s = s
+    row_map (more_of-Expression e es) a b s = seq_map a b (expression_map e) (row_map es) s
+
+  go_map : (t : Bool) (a b : ℕ) → LetGo H C t a b → LetGo H' C' t a b
+  go_map true a b s = s
+  go_map false a b s = one_map _ a b s
+
+  mutual
+    pub statement_map : (s : Statement) (a b : ℕ) → StatementAt H C s a b → StatementAt H' C' s a b
+    statement_map (Empty line) a b s = one_map _ a b s
+    statement_map (Block' line row body) a b s = seq_map a b (one_map _) (statements_map body) s
+    statement_map (Evaluate line e) a b s = seq_map a b (one_map _) (λ a b. seq_map a b (expression_map e) (go_map (is_void e))) s
+
+    pub statements_map : {m : _} (ss : Row_of-Statement m) (a b : ℕ) → StatementsAt H C ss a b → StatementsAt H' C' ss a b
+    statements_map end_of-Statement a b s = s
+    statements_map (more_of-Statement s rest) a b t = seq_map a b (statement_map s) (statements_map rest) t
+
+  pub body_map : (ss : List Statement) (a b : ℕ) → BodyAt H C ss a b → BodyAt H' C' ss a b
+  body_map [] a b s = s
+  body_map (s ∷ rest) a b t = seq_map a b (statement_map s) (body_map rest) t
+
+-- what stands in a draft stands in a later one
+abbrev pub Mono : (Draft → Span) → Type 0
+Mono A = (d d' : Draft) → Later d d' → (a b : ℕ) → A d a b → A d' a b
+
+pub one_mono : (i : Instruction) → Mono (λ d. One (Has d) (Holds d) i)
+one_mono i d d' l a b s = one_map (Has d) (Has d') (Holds d) (Holds d') l.instructions l.code.constants i a b s
+
+pub expression_mono : (e : Expression) → Mono (expression_in e)
+expression_mono e d d' l a b s = expression_map (Has d) (Has d') (Holds d) (Holds d') l.instructions l.code.constants e a b s
+
+pub statement_mono : (s : Statement) → Mono (statement_in s)
+statement_mono s d d' l a b t = statement_map (Has d) (Has d') (Holds d) (Holds d') l.instructions l.code.constants s a b t
+
+pub body_mono : (ss : List Statement) → Mono (body_in ss)
+body_mono ss d d' l a b t = body_map (Has d) (Has d') (Holds d) (Holds d') l.instructions l.code.constants ss a b t
+
+pub arguments_mono : (es : List Expression) → Mono (arguments_in es)
+arguments_mono [] d d' l a b s = s
+arguments_mono (e ∷ es) d d' l a b s = seq_map a b (expression_mono e d d' l) (arguments_mono es d d' l) s
+
+-- later and later
+pub keeps_same : (c : Code) → Keeps c c
+keeps_same c = record { texts = λ k s h. h; constants = λ k v h. h }
+
+pub keeps_on : (c c1 c2 : Code) → Keeps c c1 → Keeps c1 c2 → Keeps c c2
+keeps_on c c1 c2 k l = record { texts = λ t s h. l.texts t s (k.texts t s h); constants = λ t v h. l.constants t v (k.constants t v h) }
+
+pub later_on : (d d1 d2 : Draft) → Later d d1 → Later d1 d2 → Later d d2
+later_on d d1 d2 k l = record {
+  instructions = λ pc i h. l.instructions pc i (k.instructions pc i h);
+  code = keeps_on d.code d1.code d2.code k.code l.code;
+  functions = l.functions ∙ k.functions;
+}
+
+-- an instruction that was put
+pub adds : (i : Instruction) (d d' : Draft) → Adds i d d' → Emits (λ d. One (Has d) (Holds d) i) d d'
+adds i d d' a = subst (Emits (λ d. One (Has d) (Holds d) i) d) (sym a) (record {
+  later = record { instructions = λ pc j h. slice_get_more d.instructions (i ∷ []) pc j h; code = keeps_same d.code; functions = refl };
+  is = record { at = slice_get_seam d.instructions i []; next = omega (arith, length-append d.instructions (i ∷ [])) };
+})
+
+pub seq : (A B : Draft → Span) (d d1 d2 : Draft) → Mono A → Emits A d d1 → Emits B d1 d2 → Emits (λ d. A d ▷ B d) d d2
+seq A B d d1 d2 mono a b = record {
+  later = later_on d d1 d2 a.later b.later;
+  is = record { mid = length d1.instructions; fst = mono d1 d2 b.later _ _ a.is; snd = b.is };
+}
+
+pub none_emits : (d : Draft) → Emits (λ d. Nothing) d d
+none_emits d = record { later = record { instructions = λ pc i h. h; code = keeps_same d.code; functions = refl }; is = refl }
+
+pub on_ok : {T E P Q : Type 0} (r : Result T E) → (P → Q) → OnOk r P → OnOk r Q
+on_ok (Ok t) f h = f h
+on_ok (Err e) f h = h
+
+-- a constant whose text is there, in a code with more texts
+value_keeps : (c c' : Code) → ((t : ℕ) (s : List ℕ) → slice_get c.texts t ≡ Some s → slice_get c'.texts t ≡ Some s) → (k : Constant) (v : Value) → constant_value c k ≡ Some v → constant_value c' k ≡ Some v
+value_keeps c c' grow (constant.Text t) v e =
+    let p = then_is (slice_get c.texts t) (λ s. Some (Str s)) v e in
+    ap (λ o. then_some o (λ s. Some (Str s))) (grow t p.0 p.1) ∙ p.2
+
+pub constant_keeps : (c c' : Code) → ((t : ℕ) (s : List ℕ) → slice_get c.texts t ≡ Some s → slice_get c'.texts t ≡ Some s) → ((t : ℕ) (k : Constant) → slice_get c.constants t ≡ Some k → slice_get c'.constants t ≡ Some k) → Keeps c c'
+constant_keeps c c' texts constants = record {
+  texts = texts;
+  constants = λ k v e.
+      let p = then_is (slice_get c.constants k) (constant_value c) v e in
+      ap (λ o. then_some o (constant_value c')) (constants k p.0 p.1) ∙ value_keeps c c' texts p.0 v p.2;
+}
+
+-- the draft with one more text, and with one more constant
+abbrev more_text : List ℕ → Draft → Draft
+more_text s d = record d { code = record d.code { texts = d.code.texts ++ s ∷ [] } }
+
+abbrev more_constant : Constant → Draft → Draft
+more_constant c d = record d { code = record d.code { constants = d.code.constants ++ c ∷ [] } }
+
+pub text_later : (s : List ℕ) (d : Draft) → Later d (more_text s d)
+text_later s d = record {
+  instructions = λ pc i h. h;
+  code = constant_keeps d.code (more_text s d).code (λ t u h. slice_get_more d.code.texts (s ∷ []) t u h) (λ t u h. h);
+  functions = refl;
+}
+
+constant_later : (c : Constant) (d : Draft) → Later d (more_constant c d)
+constant_later c d = record {
+  instructions = λ pc i h. h;
+  code = constant_keeps d.code (more_constant c d).code (λ t u h. h) (λ t u h. slice_get_more d.code.constants (c ∷ []) t u h);
+  functions = refl;
+}
+
+pub text_emits : {E : Type 0} (r : Result (Unit {0}) E) (s : List ℕ) (t k : ℕ) (d d1 d2 d3 : Draft) → NewText s t d d1 → NewConstant (constant.Text t) k d1 d2 → OnOk r (Adds (op.Plain (ef.Const k)) d2 d3) → OnOk r (Emits (expression_in (x.Text s)) d d3)
+text_emits r s t k d d1 d2 d3 nt nc h = on_ok r emits h
+  where
+    holds : Holds d2 k (Str s)
+    holds =
+        subst (λ d. Holds d k (Str s)) (sym nc.draft)
+        (ap (λ o. then_some o (constant_value (more_constant (constant.Text t) d1).code)) (ap (slice_get (d1.code.constants ++ constant.Text t ∷ [])) nc.numbered ∙ slice_get_seam d1.code.constants (constant.Text t) [])
+        ∙ ap (λ o. then_some o (λ s. Some (Str s))) (ap (λ (d : Draft). slice_get d.code.texts t) nt.draft ∙ ap (slice_get (d.code.texts ++ s ∷ [])) nt.numbered ∙ slice_get_seam d.code.texts s []))
+
+    later : Later d d2
+    later = later_on d d1 d2 (subst (Later d) (sym nt.draft) (text_later s d)) (subst (Later d1) (sym nc.draft) (constant_later (constant.Text t) d1))
+
+    same : d2.instructions ≡ d.instructions
+    same = ap (λ (d : Draft). d.instructions) nc.draft ∙ ap (λ (d : Draft). d.instructions) nt.draft
+
+    emits : Adds (op.Plain (ef.Const k)) d2 d3 → Emits (expression_in (x.Text s)) d d3
+    emits a =
+        let b = adds (op.Plain (ef.Const k)) d2 d3 a in
+        record {
+          later = later_on d d2 d3 later b.later;
+          is = record { number = k; holds = b.later.code.constants k (Str s) holds; one = subst (λ is. One (Has d3) (Holds d3) (op.Plain (ef.Const k)) (length is) (length d3.instructions)) same b.is };
+        }
+
+-- a list of expressions, and the row that holds it
+abbrev row_of : Expression → (n : Count) × Row_of-Expression n
+row_of (Native' _ _ row) = (_, row)
+row_of _ = (_, end_of-Expression)
+
+row_stands : (n : _) (row : Row_of-Expression n) (d : Draft) (a b : ℕ) → arguments_in (items-the_row-Expression n row) d a b → RowAt (Has d) (Holds d) row a b
+row_stands n end_of-Expression d a b h = h
+row_stands n (more_of-Expression e es) d a b h = record { mid = h.mid; fst = h.fst; snd = row_stands _ es d h.mid b h.snd }
+
+row_count : (n : _) (row : Row_of-Expression n) → count row ≡ length (items-the_row-Expression n row)
+row_count n end_of-Expression = refl
+row_count n (more_of-Expression e es) = ap suc (row_count _ es)
+
+pub native_emits : {E : Type 0} (r : Result (Unit {0}) E) (native : Native) (args : List Expression) (k : ℕ) (d d1 d2 : Draft) → k ≡ length args → Emits (arguments_in args) d d1 → OnOk r (Adds (op.Native native k) d1 d2) → OnOk r (Emits (expression_in (x.Native native args)) d d2)
+native_emits r native args k d d1 d2 e a h = on_ok r emits h
+  where
+    row : (n : Count) × Row_of-Expression n
+    row = row_of (x.Native native args)
+
+    emits : Adds (op.Native native k) d1 d2 → Emits (expression_in (x.Native native args)) d d2
+    emits p =
+        let s = seq (arguments_in args) _ d d1 d2 (arguments_mono args) a (adds (op.Native native k) d1 d2 p) in
+        let r = row_of (x.Native native args) in
+        let c : k ≡ count r.1 = e ∙ sym (row_count r.0 r.1 ∙ ap length (items_hidden-the_row-Expression-0 args)) in
+        record {
+          later = s.later;
+          is = record { mid = s.is.mid; fst = row_stands r.0 r.1 d2 _ _ (subst (λ l. arguments_in l d2 (length d.instructions) s.is.mid) (sym (items_hidden-the_row-Expression-0 args)) s.is.fst); snd = subst (λ k. One (Has d2) (Holds d2) (op.Native native k) s.is.mid (length d2.instructions)) c s.is.snd };
+        }
+
+-- one more argument, and one more statement
+arguments_snoc : (es : List Expression) (e : Expression) (d : Draft) (a m b : ℕ) → arguments_in es d a m → expression_in e d m b → arguments_in (es ++ e ∷ []) d a b
+arguments_snoc [] e d a m b h t = record { mid = b; fst = subst (λ p. expression_in e d p b) (sym h) t; snd = refl }
+arguments_snoc (u ∷ us) e d a m b h t = record { mid = h.mid; fst = h.fst; snd = arguments_snoc us e d h.mid m b h.snd t }
+
+pub more_arguments : (es : List Expression) (e : Expression) (d d1 d2 : Draft) → Emits (arguments_in es) d d1 → Emits (expression_in e) d1 d2 → Emits (arguments_in (es ++ e ∷ [])) d d2
+more_arguments es e d d1 d2 a b =
+    let c = seq (arguments_in es) (expression_in e) d d1 d2 (arguments_mono es) a b in
+    record { later = c.later; is = arguments_snoc es e d2 _ c.is.mid _ c.is.fst c.is.snd }
+
+body_snoc : (ss : List Statement) (s : Statement) (d : Draft) (a m b : ℕ) → body_in ss d a m → statement_in s d m b → body_in (ss ++ s ∷ []) d a b
+body_snoc [] s d a m b h t = record { mid = b; fst = subst (λ p. statement_in s d p b) (sym h) t; snd = refl }
+body_snoc (u ∷ us) s d a m b h t = record { mid = h.mid; fst = h.fst; snd = body_snoc us s d h.mid m b h.snd t }
+
+pub more_body : (ss : List Statement) (s : Statement) (d d1 d2 : Draft) → Emits (body_in ss) d d1 → Emits (statement_in s) d1 d2 → Emits (body_in (ss ++ s ∷ [])) d d2
+more_body ss s d d1 d2 a b =
+    let c = seq (body_in ss) (statement_in s) d d1 d2 (body_mono ss) a b in
+    record { later = c.later; is = body_snoc ss s d2 _ c.is.mid _ c.is.fst c.is.snd }
+
+-- statements
+pub empty_emits : {E : Type 0} (r : Result (Unit {0}) E) (line : ℕ) (d d1 : Draft) → OnOk r (Adds (op.Plain (ef.Line line)) d d1) → OnOk r (Emits (statement_in (y.Empty line)) d d1)
+empty_emits r line d d1 h = on_ok r (adds _ d d1) h
+
+abbrev block_row : Statement → (n : Count) × Row_of-Statement n
+block_row (Block' _ _ row) = (_, row)
+block_row _ = (_, end_of-Statement)
+
+statements_stand : (n : _) (row : Row_of-Statement n) (d : Draft) (a b : ℕ) → body_in (items-the_row-Statement n row) d a b → StatementsAt (Has d) (Holds d) row a b
+statements_stand n end_of-Statement d a b h = h
+statements_stand n (more_of-Statement s rest) d a b h = record { mid = h.mid; fst = h.fst; snd = statements_stand _ rest d h.mid b h.snd }
+
+pub block_emits : {E : Type 0} (r : Result (Unit {0}) E) (line : ℕ) (body : List Statement) (d d1 d2 : Draft) → Adds (op.Plain (ef.Line line)) d d1 → OnOk r (Emits (body_in body) d1 d2) → OnOk r (Emits (statement_in (y.Block line body)) d d2)
+block_emits r line body d d1 d2 a h =
+    on_ok r
+    (λ b.
+    let s = seq _ (body_in body) d d1 d2 (one_mono (op.Plain (ef.Line line))) (adds _ d d1 a) b in
+    let row = block_row (y.Block line body) in
+    record { later = s.later; is = record { mid = s.is.mid; fst = s.is.fst; snd = statements_stand row.0 row.1 d2 _ _ (subst (λ l. body_in l d2 s.is.mid (length d2.instructions)) (sym (items_hidden-the_row-Statement-0 body)) s.is.snd) } })
+    h
+
+pub evaluate_emits : {E : Type 0} (r : Result (Unit {0}) E) (line : ℕ) (e : Expression) (d d1 d2 d3 : Draft) → Adds (op.Plain (ef.Line line)) d d1 → Emits (expression_in e) d1 d2 → OnOk r (Emits (let_go_in e) d2 d3) → OnOk r (Emits (statement_in (y.Evaluate line e)) d d3)
+evaluate_emits r line e d d1 d2 d3 a b h =
+    on_ok r (λ c. seq _ _ d d1 d3 (one_mono (op.Plain (ef.Line line))) (adds _ d d1 a) (seq (expression_in e) (let_go_in e) d1 d2 d3 (expression_mono e) b c)) h
+
+pub void_emits : (e : Expression) (d : Draft) → is_void e ≡ true → Emits (let_go_in e) d d
+void_emits e d v = subst (λ t. Emits (λ d. LetGo (Has d) (Holds d) t) d d) (sym v) (none_emits d)
+
+pub value_emits : {E : Type 0} (r : Result (Unit {0}) E) (e : Expression) (d d1 : Draft) → is_void e ≡ false → OnOk r (Adds (op.Plain ef.Drop) d d1) → OnOk r (Emits (let_go_in e) d d1)
+value_emits r e d d1 v h = on_ok r (λ a. subst (λ t. Emits (λ d. LetGo (Has d) (Holds d) t) d d1) (sym v) (adds _ d d1 a)) h

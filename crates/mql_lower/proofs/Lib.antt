@@ -1,0 +1,5 @@
+pub mod Emits
+pub mod Whole
+pub mod Sim
+pub mod Sound
+pub mod Both

@@ -1,0 +1,222 @@
+-- The machine follows the program.
+use Rattle.std.proofs.Common.{◌≡◌, ℕ, ℤ, zero, suc, ◌+◌, ◌<◌, ◌≤◌, Bool, true, false, List, [], ◌∷◌, ◌++◌, length, Option, Some, None, refl, sym, ap, ◌∙◌, subst, arith, append-nil}
+use Rattle.std.specs.Prelude.{slice_get}
+use Rattle.mql_mean.specs.declared.value.Value.{Value}
+use Rattle.mql_mean.specs.declared.value.Value.TheVariants.{Str}
+use Rattle.mql_mean.specs.declared.host.HostCall.{HostCall}
+use Rattle.mql_mean.specs.declared.host.Reply.{Reply}
+use Rattle.mql_mean.specs.declared.tree.Native.{Native}
+use Rattle.mql_mean.specs.declared.tree.Expression.{Expression, Text, Native', Row_of-Expression, end_of-Expression, more_of-Expression}
+use Rattle.mql_mean.specs.declared.tree.Statement.{Statement, Empty, Block', Evaluate, Row_of-Statement, end_of-Statement, more_of-Statement}
+use Rattle.mql_mean.specs.declared.tree.Function.{Function}
+use Rattle.mql_mean.specs.Answer.{Answer, Replied, Refused}
+use Rattle.mql_mean.specs.Natives.{takes, gives, native_void}
+use Rattle.mql_mean.specs.Ask.{call_of, replied, answered, asked, ask}
+use Rattle.mql_mean.specs.World.{Ended, Returned, World, Out, Ok', Bad, Res, Go, End, Act, bind, lift, map_out, spend}
+use Rattle.mql_mean.specs.Store.{enter, leave, set_line}
+use Rattle.mql_mean.specs.Means.{void_value, value_of, values_of, does, does_row, does_all, returns, calls}
+use Rattle.mql_mean.specs.Types.{is_void, Typed, TypedRow, TypedStatement, TypedStatements, TypedBody}
+use Rattle.stack_vm.specs.declared.code.Code.{Code}
+use Rattle.stack_vm.specs.declared.code.FunctionCode.{FunctionCode}
+use Rattle.stack_vm.specs.declared.code.Instruction.{Instruction}
+use Rattle.stack_vm.specs.declared.code.Instruction.TheVariants as op
+use Rattle.stack_vm.specs.declared.code.Effect.TheVariants as ef
+use Rattle.stack_vm.specs.declared.state.Operand.{Operand}
+use Rattle.stack_vm.specs.declared.state.Operand.TheVariants.{Value as Val}
+use Rattle.stack_vm.specs.Machine as m
+use Rattle.stack_vm.specs.Machine.{On, Halt, land, Taken, beside, take_values, effect, give, constant_of, native_on, fetch, act, advance, iter, Comes, starts}
+use Rattle.mql_lower.specs.Stands.{◌▷◌, Nothing, count, One, Constant, ExpressionAt, RowAt, LetGo, StatementAt, StatementsAt, BodyAt, FunctionAt, HoldsIn}
+
+-- steps do not grow past a bound
+abbrev Within : {A : Type 0} → ℕ → Res A → Type 0
+Within b (Go a n w) = n ≤ b
+Within b (End e n w) = Unit {0}
+
+module _ (code : Code) where
+  -- the machine comes from x to where the result leads, and the steps stay within the bound
+  record Runs {A : Type 0} (b : ℕ) (x : m.Next) (r : Res A) (f : A → ℕ → World → m.Next) : Type 0 where
+    comes : Comes code x (land r f)
+    within : Within b r
+
+  pub glue : (j : ℕ) (x y z : m.Next) → iter code j x ≡ y → Comes code y z → Comes code x z
+  glue zero x y z e c = subst (λ t. Comes code t z) (sym e) c
+  glue (suc j) x y z e c = let r = glue j (advance code x) y z e c in record { instructions = suc r.instructions; is = r.is }
+
+  -- no instruction
+  stays : (x y : m.Next) → x ≡ y → Comes code x y
+  stays x y e = record { instructions = 0; is = e }
+
+  -- one instruction
+  goes_on : (x y : m.Next) → advance code x ≡ y → Comes code x y
+  goes_on x y e = record { instructions = 1; is = e }
+
+  then_runs : {A B : Type 0} (b : ℕ) (x : m.Next) (r : Res A) (f : A → ℕ → World → m.Next) (g : A → Act B) (h : B → ℕ → World → m.Next) → Runs b x r f → ((a : A) (n : ℕ) (w : World) → n ≤ b → Runs b (f a n w) (g a n w) h) → Runs b x (bind r g) h
+  then_runs b x (Go a n w) f g h r k =
+      let s = k a n w r.within in
+      record { comes = glue r.comes.instructions x (f a n w) (land (g a n w) h) r.comes.is s.comes; within = s.within }
+  then_runs b x (End e n w) f g h r k = record { comes = r.comes; within = tt }
+
+  -- a stretch before
+  from_runs : {A : Type 0} (b : ℕ) (x y : m.Next) (r : Res A) (f : A → ℕ → World → m.Next) → Comes code x y → Runs b y r f → Runs b x r f
+  from_runs b x y r f c s = record { comes = glue c.instructions x y (land r f) c.is s.comes; within = s.within }
+
+  weaken : {A : Type 0} (a b : ℕ) (x : m.Next) (r : Res A) (f : A → ℕ → World → m.Next) → a ≤ b → Runs a x r f → Runs b x r f
+  weaken a b x (Go v n w) f le s = record { comes = s.comes; within = omega (arith, s.within, le) }
+  weaken a b x (End e n w) f le s = record { comes = s.comes; within = tt }
+
+  -- a value at once
+  done_runs : {A : Type 0} (b : ℕ) (x : m.Next) (a : A) (n : ℕ) (w : World) (f : A → ℕ → World → m.Next) → n ≤ b → Comes code x (f a n w) → Runs b x (Go a n w) f
+  done_runs b x a n w f le c = record { comes = c; within = le }
+
+  lift_within : {A : Type 0} (b n : ℕ) (w : World) (o : Out A) → n ≤ b → Within b (lift o n w)
+  lift_within b n w (Ok' a store) le = le
+  lift_within b n w (Bad e) le = tt
+
+  -- a primitive, from a state that has it done already
+  lift_here : {A : Type 0} (b n : ℕ) (w : World) (o : Out A) (f : A → ℕ → World → m.Next) → n ≤ b → Runs b (land (lift o n w) f) (lift o n w) f
+  lift_here b n w o f le = record { comes = stays _ _ refl; within = lift_within b n w o le }
+
+  land_map : {A B : Type 0} (n : ℕ) (w : World) (g : A → B) (o : Out A) (f : B → ℕ → World → m.Next) → land (lift (map_out g o) n w) f ≡ land (lift o n w) (λ a. f (g a))
+  land_map n w g (Ok' a store) f = refl
+  land_map n w g (Bad e) f = refl
+
+  -- what a predicate says of a value, if there is one
+  abbrev IfGo : {A : Type 0} → (A → Type 0) → Res A → Type 0
+  IfGo P (Go a n w) = P a
+  IfGo P (End e n w) = Unit {0}
+
+  bind_go : {A B : Type 0} (P : B → Type 0) (r : Res A) (g : A → Act B) → ((a : A) (n : ℕ) (w : World) → IfGo P (g a n w)) → IfGo P (bind r g)
+  bind_go P (Go a n w) g h = h a n w
+  bind_go P (End e n w) g h = tt
+
+  -- the same with a fact on the value
+  then_runs_if : {A B : Type 0} (P : A → Type 0) (b : ℕ) (x : m.Next) (r : Res A) (f : A → ℕ → World → m.Next) (g : A → Act B) (h : B → ℕ → World → m.Next) → IfGo P r → Runs b x r f → ((a : A) (n : ℕ) (w : World) → P a → n ≤ b → Runs b (f a n w) (g a n w) h) → Runs b x (bind r g) h
+  then_runs_if P b x (Go a n w) f g h p r k =
+      let s = k a n w p r.within in
+      record { comes = glue r.comes.instructions x (f a n w) (land (g a n w) h) r.comes.is s.comes; within = s.within }
+  then_runs_if P b x (End e n w) f g h p r k = record { comes = r.comes; within = tt }
+
+  -- the values of a list, the last one topmost
+  abbrev push : List Value → List Operand → List Operand
+  push [] ops = ops
+  push (v ∷ vs) ops = push vs (Val v ∷ ops)
+
+  pop_push : (vs : List Value) (c j : ℕ) (ops : List Operand) (acc : List Value) → j ≡ length vs + c → take_values j (push vs ops) acc ≡ take_values c ops (vs ++ acc)
+  pop_push [] c j ops acc e = ap (λ j. take_values j ops acc) (let e' : j ≡ c = omega (arith, e) in e')
+  pop_push (v ∷ vs) c j ops acc e = pop_push vs (suc c) j (Val v ∷ ops) acc (omega (arith, e))
+
+  taken : (vs : List Value) (j : ℕ) (ops : List Operand) → length vs ≡ j → take_values j (push vs ops) [] ≡ Some (beside vs ops)
+  taken vs j ops e = pop_push vs 0 j ops [] (omega (arith, e)) ∙ ap (λ vs. Some (beside vs ops)) (append-nil vs)
+
+  module _ (fn : ℕ) where
+    abbrev pub HasIn : ℕ → Instruction → Type 0
+    HasIn pc i = fetch code fn pc ≡ Some i
+
+    abbrev HoldsHere : ℕ → Value → Type 0
+    HoldsHere = HoldsIn code
+
+    one : (i : Instruction) (pc pc' : ℕ) (ops : List Operand) (n : ℕ) (w : World) → One HasIn HoldsHere i pc pc' → advance code (On fn pc ops n w) ≡ act code (Some i) fn pc ops n w
+    one i pc pc' ops n w at = ap (λ o. act code o fn pc ops n w) at.at
+
+    -- an instruction that is a primitive
+    one_runs : {A : Type 0} (b : ℕ) (i : Instruction) (pc pc' : ℕ) (o : Out A) (g : A → List Operand) (ops : List Operand) (n : ℕ) (w : World) → One HasIn HoldsHere i pc pc' → n ≤ b → act code (Some i) fn pc ops n w ≡ land (lift (map_out g o) n w) (λ ops n w. On fn (pc + 1) ops n w) → Runs b (On fn pc ops n w) (lift o n w) (λ a n w. On fn pc' (g a) n w)
+    one_runs b i pc pc' o g ops n w at le e = record {
+      comes = goes_on _ _ (one i pc pc' ops n w at ∙ e ∙ land_map n w g o _ ∙ ap (λ p. land (lift o n w) (λ a n w. On fn p (g a) n w)) at.next);
+      within = lift_within b n w o le;
+    }
+
+    -- a constant
+    constant_runs : (b pc pc' : ℕ) (v : Value) (ops : List Operand) (n : ℕ) (w : World) → Constant HasIn HoldsHere v pc pc' → n ≤ b → Runs b (On fn pc ops n w) (Go v n w) (λ v n w. On fn pc' (Val v ∷ ops) n w)
+    constant_runs b pc pc' v ops n w at le = one_runs b (op.Plain (ef.Const at.number)) pc pc' (Ok' v w.store) (λ v. Val v ∷ ops) ops n w at.one le
+        (ap (λ o. land (lift (Rattle.mql_mean.specs.Store.with_some o (λ v. Ok' (Val v ∷ ops) w.store)) n w) (λ ops n w. On fn (pc + 1) ops n w)) at.holds)
+
+    replied_within : (b : ℕ) (t : Bool) (reply : Reply) (c : HostCall) (answers : List Answer) (n : ℕ) (w : World) → n ≤ b → Within b (replied t reply c answers n w)
+    replied_within b true reply c answers n w le = le
+    replied_within b false reply c answers n w le = tt
+
+    answered_within : (b : ℕ) (native : Native) (c : HostCall) (answers : List Answer) (n : ℕ) (w : World) → n ≤ b → Within b (answered native c answers n w)
+    answered_within b native c [] n w le = tt
+    answered_within b native c (Replied reply ∷ answers) n w le = replied_within b (gives native reply) reply c answers n w le
+    answered_within b native c (Refused kind ∷ answers) n w le = tt
+
+    asked_within : (b : ℕ) (t : Bool) (native : Native) (args : List Value) (n : ℕ) (w : World) → n ≤ b → Within b (asked t native args n w)
+    asked_within b true native args n w le = answered_within b native (call_of native args) w.answers n w le
+    asked_within b false native args n w le = tt
+
+    -- a call of a native function
+    native_runs : (b : ℕ) (native : Native) (k pc pc' : ℕ) (vs : List Value) (ops : List Operand) (n : ℕ) (w : World) → One HasIn HoldsHere (op.Native native k) pc pc' → length vs ≡ k → n ≤ b → Runs b (On fn pc (push vs ops) n w) (ask native vs n w) (λ v n w. On fn pc' (give (native_void native) v ops) n w)
+    native_runs b native k pc pc' vs ops n w at e le = record {
+      comes = goes_on _ _ (one (op.Native native k) pc pc' (push vs ops) n w at ∙ ap (λ o. native_on native o n w (λ ops n w. On fn (pc + 1) ops n w)) (taken vs k ops e) ∙ ap (λ p. land (ask native vs n w) (λ v n w. On fn p (give (native_void native) v ops) n w)) at.next);
+      within = asked_within b (takes native vs) native vs n w le;
+    }
+
+    row_count : {m : _} (es : Row_of-Expression m) (n : ℕ) (w : World) → IfGo (λ vs. length vs ≡ count es) (values_of es n w)
+    row_count end_of-Expression n w = refl
+    row_count (more_of-Expression e es) n w =
+        bind_go (λ vs. length vs ≡ suc (count es)) (value_of e n w) (λ v n w. bind (values_of es n w) (λ vs n w. Go (v ∷ vs) n w)) λ v n w. more v (values_of es n w) (row_count es n w)
+      where
+        more : (v : Value) (r : Res (List Value)) → IfGo (λ vs. length vs ≡ count es) r → IfGo (λ vs. length vs ≡ suc (count es)) (bind r (λ vs n w. Go (v ∷ vs) n w))
+        more v (Go vs n w) h = ap suc h
+        more v (End e n w) h = tt
+
+    mutual
+      expression_runs : (e : Expression) (pc pc' : ℕ) (ops : List Operand) (b n : ℕ) (w : World) → Typed e → ExpressionAt HasIn HoldsHere e pc pc' → n ≤ b → Runs b (On fn pc ops n w) (value_of e n w) (λ v n w. On fn pc' (give (is_void e) v ops) n w)
+      expression_runs (Text s) pc pc' ops b n w t at le = constant_runs b pc pc' (Str s) ops n w at le
+      expression_runs (Native' native row args) pc pc' ops b n w t at le =
+          then_runs_if (λ vs. length vs ≡ count args) b _ _ _ _ _ (row_count args n w) (row_runs args pc at.mid ops b n w t at.fst le)
+          λ vs n w e le. native_runs b native (count args) at.mid pc' vs ops n w at.snd e le
+
+      row_runs : {m : _} (es : Row_of-Expression m) (pc pc' : ℕ) (ops : List Operand) (b n : ℕ) (w : World) → TypedRow es → RowAt HasIn HoldsHere es pc pc' → n ≤ b → Runs b (On fn pc ops n w) (values_of es n w) (λ vs n w. On fn pc' (push vs ops) n w)
+      row_runs end_of-Expression pc pc' ops b n w t at le = done_runs b _ [] n w _ le (stays _ _ (ap (λ p. On fn p ops n w) at))
+      row_runs (more_of-Expression e es) pc pc' ops b n w t at le =
+          then_runs b _ _ _ _ _ (subst (λ v'. Runs b (On fn pc ops n w) (value_of e n w) (λ v n w. On fn at.mid (give v' v ops) n w)) t.0 (expression_runs e pc at.mid ops b n w t.1 at.fst le))
+          λ v n w le. then_runs b _ _ _ _ _ (row_runs es at.mid pc' (Val v ∷ ops) b n w t.2 at.snd le)
+          λ vs n w le. done_runs b _ (v ∷ vs) n w _ le (stays _ _ refl)
+
+    line_runs : (b line pc pc' : ℕ) (ops : List Operand) (n : ℕ) (w : World) → One HasIn HoldsHere (op.Plain (ef.Line line)) pc pc' → n ≤ b → Runs b (On fn pc ops n w) (lift (set_line line w.store) n w) (λ _ n w. On fn pc' ops n w)
+    line_runs b line pc pc' ops n w at le = one_runs b (op.Plain (ef.Line line)) pc pc' (set_line line w.store) (λ _. ops) ops n w at le refl
+
+    go_runs : (b : ℕ) (t : Bool) (pc pc' : ℕ) (v : Value) (ops : List Operand) (n : ℕ) (w : World) → LetGo HasIn HoldsHere t pc pc' → n ≤ b → Runs b (On fn pc (give t v ops) n w) (Go tt n w) (λ (_ : Unit {0}) n w. On fn pc' ops n w)
+    go_runs b true pc pc' v ops n w at le = done_runs b _ tt n w _ le (stays _ _ (ap (λ p. On fn p ops n w) at))
+    go_runs b false pc pc' v ops n w at le = done_runs b _ tt n w _ le (goes_on _ _ (one (op.Plain ef.Drop) pc pc' (Val v ∷ ops) n w at ∙ ap (λ p. On fn p ops n w) at.next))
+
+    module _ (d : ℕ) where
+      mutual
+        statement_runs : (s : Statement) (pc pc' : ℕ) (ops : List Operand) (b n : ℕ) (w : World) → TypedStatement s → StatementAt HasIn HoldsHere s pc pc' → n ≤ b → Runs b (On fn pc ops n w) (does d s n w) (λ _ n w. On fn pc' ops n w)
+        statement_runs (Empty line) pc pc' ops b n w t at le = line_runs b line pc pc' ops n w at le
+        statement_runs (Block' line row body) pc pc' ops b n w t at le =
+            then_runs b _ _ _ _ _ (line_runs b line pc at.mid ops n w at.fst le)
+            λ _ n w le. statements_run body at.mid pc' ops b n w t at.snd le
+        statement_runs (Evaluate line e) pc pc' ops b n w t at le =
+            then_runs b _ _ _ _ _ (line_runs b line pc at.mid ops n w at.fst le)
+            λ _ n w le. then_runs b _ _ _ _ _ (expression_runs e at.mid at.snd.mid ops b n w t at.snd.fst le)
+            λ v n w le. go_runs b (is_void e) at.snd.mid pc' v ops n w at.snd.snd le
+
+        statements_run : {m : _} (ss : Row_of-Statement m) (pc pc' : ℕ) (ops : List Operand) (b n : ℕ) (w : World) → TypedStatements ss → StatementsAt HasIn HoldsHere ss pc pc' → n ≤ b → Runs b (On fn pc ops n w) (does_row d ss n w) (λ _ n w. On fn pc' ops n w)
+        statements_run end_of-Statement pc pc' ops b n w t at le = done_runs b _ tt n w _ le (stays _ _ (ap (λ p. On fn p ops n w) at))
+        statements_run (more_of-Statement s rest) pc pc' ops b n w t at le =
+            then_runs b _ _ _ _ _ (statement_runs s pc at.mid ops b n w t.0 at.fst le)
+            λ _ n w le. statements_run rest at.mid pc' ops b n w t.1 at.snd le
+
+      body_runs : (ss : List Statement) (pc pc' : ℕ) (ops : List Operand) (b n : ℕ) (w : World) → TypedBody ss → BodyAt HasIn HoldsHere ss pc pc' → n ≤ b → Runs b (On fn pc ops n w) (does_all d ss n w) (λ _ n w. On fn pc' ops n w)
+      body_runs [] pc pc' ops b n w t at le = done_runs b _ tt n w _ le (stays _ _ (ap (λ p. On fn p ops n w) at))
+      body_runs (s ∷ rest) pc pc' ops b n w t at le =
+          then_runs b _ _ _ _ _ (statement_runs s pc at.mid ops b n w t.0 at.fst le)
+          λ _ n w le. body_runs rest at.mid pc' ops b n w t.1 at.snd le
+
+    -- a step, where one is left
+    spend_runs : {A : Type 0} (b pc pc' : ℕ) (ops : List Operand) (n : ℕ) (w : World) (go : Act A) (f : A → ℕ → World → m.Next) → One HasIn HoldsHere op.Step pc pc' → ((k : ℕ) → n ≡ suc k → Runs b (On fn pc' ops k w) (go k w) f) → Runs b (On fn pc ops n w) (spend go n w) f
+    spend_runs b pc pc' ops zero w go f at r = record { comes = goes_on _ _ (one op.Step pc pc' ops zero w at); within = tt }
+    spend_runs b pc pc' ops (suc n) w go f at r =
+        from_runs b _ _ (go n w) f (goes_on _ _ (one op.Step pc pc' ops (suc n) w at ∙ ap (λ p. On fn p ops n w) at.next)) (r n refl)
+
+    -- a function
+    function_runs : (f : Function) (end : ℕ) (d b n : ℕ) (w : World) → TypedBody f.body → FunctionAt HasIn HoldsHere f 0 end → n ≤ b → Runs b (land (lift (enter w.store) n w) (λ _ n w. On fn 0 [] n w)) (calls d (Some f) n w) (λ v n w. Halt (Returned v) n w)
+    function_runs f end d b n w t at le =
+        then_runs b _ _ _ _ _ (lift_here b n w (enter w.store) (λ _ n w. On fn 0 [] n w) le)
+        λ _ n w le. spend_runs b 0 at.mid [] n w _ _ at.fst λ k e.
+        then_runs b _ _ _ _ _ (body_runs d f.body at.mid at.snd.mid [] b k w t at.snd.fst (omega (arith, e, le)))
+        λ _ n w le. done_runs b _ void_value n (record w { store = leave w.store }) _ le (goes_on _ _ (one op.Return at.snd.mid end [] n w at.snd.snd))
+
+  pub function_comes : (fn : ℕ) (f : Function) (end : ℕ) (n : ℕ) (w : World) → TypedBody f.body → FunctionAt (HasIn fn) (HoldsIn code) f 0 end → Comes code (land (lift (enter w.store) n w) (λ _ n w. On fn 0 [] n w)) (land (calls n (Some f) n w) (λ v n w. Halt (Returned v) n w))
+  function_comes fn f end n w t at = (function_runs fn f end n n n w t at (omega arith)).comes

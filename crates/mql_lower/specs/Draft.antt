@@ -1,0 +1,95 @@
+-- Code in the making.
+use Rattle.std.specs.Prelude.{◌≡◌, ℕ, ◌+◌, List, [], ◌∷◌, ◌++◌, Option, Some, None, length, slice_get}
+use Rattle.mql_mean.specs.declared.value.Value.{Value}
+use Rattle.mql_mean.specs.declared.tree.Expression.{Expression}
+use Rattle.mql_mean.specs.declared.tree.Statement.{Statement}
+use Rattle.mql_mean.specs.declared.tree.Function.{Function}
+use Rattle.mql_mean.specs.declared.tree.Checked.{Checked}
+use Rattle.mql_mean.specs.Means.{nothing}
+use Rattle.stack_vm.specs.declared.code.Code.{Code}
+use Rattle.stack_vm.specs.declared.code.Constant.{Constant}
+use Rattle.stack_vm.specs.declared.code.FunctionCode.{FunctionCode}
+use Rattle.stack_vm.specs.declared.code.Instruction.{Instruction}
+use Rattle.stack_vm.specs.Machine.{constant_of}
+use Rattle.mql_lower.specs.declared.draft.Draft.{Draft}
+use Rattle.mql_mean.specs.Types.{is_void}
+use Rattle.stack_vm.specs.declared.code.Entries.{Entries}
+use Rattle.mql_lower.specs.Stands.{Span, ◌▷◌, Nothing, ExpressionAt, StatementAt, LetGo, BodyAt, EachFor}
+
+abbrev pub Has : Draft → ℕ → Instruction → Type 0
+Has d pc i = slice_get d.instructions pc ≡ Some i
+
+abbrev pub Holds : Draft → ℕ → Value → Type 0
+Holds d number v = constant_of d.code number ≡ Some v
+
+abbrev pub expression_in : Expression → Draft → Span
+expression_in e d = ExpressionAt (Has d) (Holds d) e
+
+abbrev pub arguments_in : List Expression → Draft → Span
+arguments_in [] d = Nothing
+arguments_in (e ∷ es) d = expression_in e d ▷ arguments_in es d
+
+abbrev pub let_go_in : Expression → Draft → Span
+let_go_in e d = LetGo (Has d) (Holds d) (is_void e)
+
+abbrev pub statement_in : Statement → Draft → Span
+statement_in s d = StatementAt (Has d) (Holds d) s
+
+abbrev pub body_in : List Statement → Draft → Span
+body_in ss d = BodyAt (Has d) (Holds d) ss
+
+-- texts and constants stay, and functions are the same
+pub record Keeps (old new : Code) : Type 0 where
+  pub texts : (number : ℕ) (s : List ℕ) → slice_get old.texts number ≡ Some s → slice_get new.texts number ≡ Some s
+  pub constants : (number : ℕ) (v : Value) → constant_of old number ≡ Some v → constant_of new number ≡ Some v
+
+-- what stands stays
+pub record Later (old new : Draft) : Type 0 where
+  pub instructions : (pc : ℕ) (i : Instruction) → Has old pc i → Has new pc i
+  pub code : Keeps old.code new.code
+  pub functions : new.code.functions ≡ old.code.functions
+
+-- a part was added
+pub record Emits (A : Draft → Span) (old new : Draft) : Type 0 where
+  pub later : Later old new
+  pub is : A new (length old.instructions) (length new.instructions)
+
+-- an instruction was added
+abbrev pub Adds : Instruction → Draft → Draft → Type 0
+Adds i old new = new ≡ record old { instructions = old.instructions ++ i ∷ [] }
+
+-- a text was added
+pub record NewText (s : List ℕ) (number : ℕ) (old new : Draft) : Type 0 where
+  pub numbered : number ≡ length old.code.texts
+  pub draft : new ≡ record old { code = record old.code { texts = old.code.texts ++ s ∷ [] } }
+
+-- a constant was added
+pub record NewConstant (c : Constant) (number : ℕ) (old new : Draft) : Type 0 where
+  pub numbered : number ≡ length old.code.constants
+  pub draft : new ≡ record old { code = record old.code { constants = old.code.constants ++ c ∷ [] } }
+
+-- a function was added at the end
+pub record Compiles (f : Function) (old new : Code) : Type 0 where
+  pub keeps : Keeps old new
+  pub added : FunctionCode
+  pub functions : new.functions ≡ old.functions ++ added ∷ []
+  pub each : EachFor new (f ∷ []) (added ∷ [])
+
+-- the entries of lowered code
+abbrev pub entries : Option ℕ → Option ℕ → Option ℕ → Entries
+entries start tick stop = record { start = start; init = None; tick = tick; trade = None; tester = None; deinit = None; stop = stop }
+
+abbrev pub no_code : Code
+no_code = record { texts = []; constants = []; functions = []; entries = entries None None None }
+
+abbrev pub with_entries : Code → ℕ → Option ℕ → ℕ → Code
+with_entries code start tick stop = record code { entries = entries (Some start) tick (Some stop) }
+
+-- the source's functions, and then Start's and Stop's
+abbrev pub all_functions : Checked → List Function
+all_functions checked = checked.functions ++ nothing ∷ nothing ∷ []
+
+-- the code of a whole program: a code for each function, and the entries that name them
+pub record Compiled (checked : Checked) (code : Code) : Type 0 where
+  pub each : EachFor code (all_functions checked) code.functions
+  pub entries : code.entries ≡ entries (Some (length checked.functions)) checked.tick (Some (length checked.functions + 1))

@@ -1,0 +1,184 @@
+//! From the tree to the machine's code.
+ghost use Rattle.std.specs.Prelude.{◌≡◌, [], ◌∷◌, ◌++◌, Some, None, length, OnOk, IfOk};
+ghost use Rattle.mql_mean.specs.Types.{Types};
+ghost use Rattle.mql_mean.specs.Means.{nothing};
+ghost use Rattle.mql_lower.specs.Draft.{Compiled, Compiles, Emits, arguments_in, body_in, expression_in, let_go_in, no_code, statement_in, with_entries};
+ghost use Rattle.mql_lower.specs.Stands.{EachFor};
+ghost use Rattle.mql_lower.specs.Follows.{Follows};
+
+use crate::draft::{Draft, add_constant, add_text, put, short};
+use fx8::{ItemList, OutOfMemory};
+use mql_mean::{Checked, Expression, Function, Statement};
+use stack_vm::{Code, Constant, Effect, Entries, FunctionCode, Instruction, Program, Valid};
+use std::alloc::Global;
+
+#[cycle(expressions)]
+#[tactic(auto, using(crate::proofs::Emits::text_emits, crate::proofs::Emits::native_emits))]
+fn expression(alloc: Global, draft: &mut Draft, e: &Expression) -> Result<(), OutOfMemory>
+    ensures { OnOk result (Emits (expression_in e.now) draft.old draft.new) }
+{
+    match e {
+        Expression::Text(text) => {
+            let number = add_text(alloc, draft, text)?;
+            let constant = add_constant(draft, Constant::Text(number))?;
+            put(draft, Instruction::Plain(Effect::Const(constant)))
+        }
+        Expression::Native(native, args) => {
+            let count = short(args.len())?;
+            arguments(alloc, draft, args.as_slice())?;
+            put(draft, Instruction::Native(*native, count))
+        }
+    }
+}
+
+#[cycle(expressions)]
+fn arguments(alloc: Global, draft: &mut Draft, args: &[Expression]) -> Result<(), OutOfMemory>
+    ensures { OnOk result (Emits (arguments_in args.now) draft.old draft.new) }
+{
+    for e in args {
+        expression(alloc, draft, e)?;
+    }
+    Ok(())
+}
+
+#[cycle(statements)]
+#[tactic(auto, using(crate::proofs::Emits::empty_emits, crate::proofs::Emits::block_emits, crate::proofs::Emits::evaluate_emits))]
+fn statement(alloc: Global, draft: &mut Draft, s: &Statement) -> Result<(), OutOfMemory>
+    ensures { OnOk result (Emits (statement_in s.now) draft.old draft.new) }
+{
+    match s {
+        Statement::Empty(line) => put(draft, Instruction::Plain(Effect::Line(*line))),
+        Statement::Block(line, body) => {
+            put(draft, Instruction::Plain(Effect::Line(*line)))?;
+            block(alloc, draft, body.as_slice())
+        }
+        Statement::Evaluate(line, e) => {
+            put(draft, Instruction::Plain(Effect::Line(*line)))?;
+            expression(alloc, draft, e)?;
+            let_go(draft, e)
+        }
+    }
+}
+
+#[tactic(auto, using(crate::proofs::Emits::void_emits, crate::proofs::Emits::value_emits))]
+/// Lets the value of an expression go, if it gives one.
+fn let_go(draft: &mut Draft, e: &Expression) -> Result<(), OutOfMemory>
+    ensures { OnOk result (Emits (let_go_in e.now) draft.old draft.new) }
+{
+    if e.is_void() {
+        Ok(())
+    } else {
+        put(draft, Instruction::Plain(Effect::Drop))
+    }
+}
+
+#[cycle(statements)]
+fn block(alloc: Global, draft: &mut Draft, body: &[Statement]) -> Result<(), OutOfMemory>
+    ensures { OnOk result (Emits (body_in body.now) draft.old draft.new) }
+{
+    for s in body {
+        statement(alloc, draft, s)?;
+    }
+    Ok(())
+}
+
+/// Adds the code of a function.
+fn function(alloc: Global, code: Code, f: &Function) -> Result<Code, OutOfMemory>
+    ensures { IfOk result (λ new. Compiles f.now code new) }
+{
+    let mut draft = Draft {
+        code,
+        instructions: ItemList::new(alloc),
+    };
+    let name = add_text(alloc, &mut draft, &f.name)?;
+    put(&mut draft, Instruction::Step)?;
+    block(alloc, &mut draft, f.body.as_slice())?;
+    put(&mut draft, Instruction::Return)?;
+    let Draft {
+        mut code,
+        instructions,
+    } = draft;
+    code.functions.push(FunctionCode { name, instructions })?;
+    Ok(code)
+}
+
+/// Code with no functions yet.
+fn no_code(alloc: Global) -> Code
+    ensures { result ≡ no_code }
+{
+    Code {
+        texts: ItemList::new(alloc),
+        constants: ItemList::new(alloc),
+        functions: ItemList::new(alloc),
+        entries: Entries {
+            start: None,
+            init: None,
+            tick: None,
+            trade: None,
+            tester: None,
+            deinit: None,
+            stop: None,
+        },
+    }
+}
+
+/// The code of each function.
+fn each(alloc: Global, functions: &[Function]) -> Result<Code, OutOfMemory>
+    ensures { IfOk result (λ code. EachFor code functions.now code.functions) }
+{
+    let mut code = no_code(alloc);
+    for f in functions {
+        code = function(alloc, code, f)?;
+    }
+    Ok(code)
+}
+
+/// A function with nothing to do.
+fn empty_function(alloc: Global) -> Function
+    ensures { result ≡ nothing }
+{
+    Function {
+        name: ItemList::new(alloc),
+        body: ItemList::new(alloc),
+    }
+}
+
+/// The code of each function of a program, with those that it begins and ends with, and its entries.
+fn whole(alloc: Global, checked: &Checked) -> Result<Code, OutOfMemory>
+    ensures { IfOk result (λ code. Compiled checked.now code) }
+{
+    let code = each(alloc, checked.functions.as_slice())?;
+    let nothing = empty_function(alloc);
+    let start = short(code.functions.len())?;
+    let code = function(alloc, code, &nothing)?;
+    let stop = short(code.functions.len())?;
+    let code = function(alloc, code, &nothing)?;
+    Ok(with_entries(code, start, checked.tick, stop))
+}
+
+/// The code of a checked program: it has an outcome exactly where the program means it.
+pub fn lower(alloc: Global, checked: &Checked) -> Result<Program, OutOfMemory>
+    requires { Types checked.now }
+    ensures { IfOk result (λ program. Follows checked.now program) }
+{
+    let code = whole(alloc, checked)?;
+    Ok(Program::of(Valid::of(code)))
+}
+
+/// The code with its entries.
+fn with_entries(code: Code, start: u32, tick: Option<u32>, stop: u32) -> Code
+    ensures { result ≡ with_entries code start tick stop }
+{
+    Code {
+        entries: Entries {
+            start: Some(start),
+            init: None,
+            tick,
+            trade: None,
+            tester: None,
+            deinit: None,
+            stop: Some(stop),
+        },
+        ..code
+    }
+}
