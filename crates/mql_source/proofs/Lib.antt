@@ -1,3 +1,4 @@
 pub mod Before
 pub mod Bound
 pub mod Steps
+pub mod Typed

@@ -1,5 +1,6 @@
 //! From bytes to the tree.
-ghost use Rattle.std.specs.Prelude.{◌≡◌, IfOk};
+ghost use Rattle.std.specs.Prelude.{◌≡◌, IfOk, IfSome};
+ghost use Rattle.mql_mean.specs.Types.{Types};
 ghost use Rattle.mql_source.specs.Source.{checked_of, program_of};
 
 use crate::front::{all_ascii, units};
@@ -31,7 +32,8 @@ fn program_of(alloc: Global, body: ItemList<Statement>) -> Result<Checked, OutOf
 /// The tree of a source of the first level; `None` for every other text.
 #[tactic(auto, unfolding(crate::specs::Source::checked_of, crate::specs::Source::program_at))]
 pub fn read_source(alloc: Global, bytes: &[u8]) -> Result<Option<Checked>, OutOfMemory>
-    ensures { IfOk result (λ found. found ≡ checked_of bytes.now) }
+    ensures exact { IfOk result (λ found. found ≡ checked_of bytes.now) }
+    ensures typed { IfOk result (λ found. IfSome found Types) }
 {
     if bytes.len() > LONGEST || !all_ascii(bytes) {
         return Ok(None);
