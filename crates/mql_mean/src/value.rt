@@ -1,6 +1,6 @@
 //! Values.
 ghost use Rattle.std.specs.Prelude.{◌≡◌};
-ghost use Rattle.mql_mean.specs.Natives.{all_print, prints};
+ghost use Rattle.mql_mean.specs.Natives.{all_print, is_int, prints};
 
 use fx8::{Fix8, IntKind, ItemList, Text};
 
@@ -24,14 +24,25 @@ pub enum Value {
 /// Values in order.
 pub type ValueList = ItemList<Value>;
 
+// The kind `int`.
+fn is_int(kind: IntKind) -> bool
+    ensures { result ≡ is_int kind }
+{
+    match kind {
+        IntKind::Int => true,
+        _ => false,
+    }
+}
+
 impl Value {
-    /// Whether it can be printed: a number, a double or a string.
+    /// Whether it can be printed: so far an int or a string.
     pub fn prints(&self) -> bool
         ensures { result ≡ prints self.now }
     {
         match self {
-            Value::Num(_, _) | Value::Dbl(_) | Value::Str(_) => true,
-            Value::Ptr(_) | Value::Arr(_) | Value::Rec(_) => false,
+            Value::Num(kind, _) => is_int(*kind),
+            Value::Str(_) => true,
+            Value::Dbl(_) | Value::Ptr(_) | Value::Arr(_) | Value::Rec(_) => false,
         }
     }
 }
