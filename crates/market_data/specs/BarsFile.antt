@@ -54,12 +54,18 @@ greatest_price = 10 ^ 15
 abbrev pub in_units : ℕ → ℕ → ℕ → ℕ
 in_units whole_part decimals places = whole_part * 10 ^ 8 + decimals * 10 ^ (8 - places)
 
+abbrev pub whole_price : List ℕ → Option ℕ
+whole_price whole_part = option_map (λ n. n * 10 ^ 8) (whole 10000000 whole_part)
+
+abbrev pub decimal_price : List ℕ → List ℕ → Option ℕ
+decimal_price whole_part decimals =
+    given (whole 10000000 whole_part) (λ n. given (whole 99999999 decimals) (λ k. provided (nat_le (length decimals) 8) (in_units n k (length decimals))))
+
 abbrev pub price_of_parts : List (List ℕ) → Option ℕ
 price_of_parts [] = None
-price_of_parts (w ∷ []) = option_map (λ n. n * 10 ^ 8) (whole 10000000 w)
-price_of_parts (w ∷ d ∷ []) =
-    given (whole 10000000 w) (λ n. if nat_le (length d) 8 then option_map (λ k. in_units n k (length d)) (whole 99999999 d) else None)
-price_of_parts (w ∷ d ∷ x ∷ more) = None
+price_of_parts (whole_part ∷ []) = whole_price whole_part
+price_of_parts (whole_part ∷ decimals ∷ []) = decimal_price whole_part decimals
+price_of_parts (whole_part ∷ decimals ∷ more ∷ most) = None
 
 abbrev pub price : List ℕ → Option ℕ
 price text = given (price_of_parts (parts 46 text)) (λ units. provided (nat_lt 0 units && nat_le units greatest_price) units)
@@ -68,24 +74,32 @@ price text = given (price_of_parts (parts 46 text)) (λ units. provided (nat_lt 
 abbrev pub is_day : ℕ → ℕ → ℕ → Bool
 is_day year month day = nat_le 1970 year && nat_le 1 month && nat_le 1 day && nat_le day (days_in_month (pos year) month)
 
--- the day number of a date such as 2020.01.02: days since 1970.01.01
-abbrev pub day_of_parts : List (List ℕ) → Option ℤ
-day_of_parts (y ∷ m ∷ d ∷ []) =
-    given (whole_of 4 2999 y) (λ year. given (whole_of 2 12 m) (λ month. given (whole_of 2 31 d) (λ day.
-    provided (is_day year month day) (days_from_civil (pos year) month day))))
-day_of_parts other = None
+-- three parts, and no more
+abbrev pub three : List (List ℕ) → Option (List ℕ × List ℕ × List ℕ)
+three (first ∷ second ∷ third ∷ []) = Some (first, second, third)
+three other = None
+
+-- the day number of a day: days since 1970.01.01
+abbrev pub day_number : ℕ → ℕ → ℕ → Option ℤ
+day_number year month day = provided (is_day year month day) (days_from_civil (pos year) month day)
+
+-- the day number of a date such as 2020.01.02
+abbrev pub day_of : List ℕ → List ℕ → List ℕ → Option ℤ
+day_of y m d = given (whole_of 4 2999 y) (λ year. given (whole_of 2 12 m) (λ month. given (whole_of 2 31 d) (λ day. day_number year month day)))
 
 -- the seconds since midnight of a time such as 10:00:00, whose seconds are 00
-abbrev pub clock_of_parts : List (List ℕ) → Option ℕ
-clock_of_parts (h ∷ m ∷ s ∷ []) =
-    given (whole_of 2 23 h) (λ hours. given (whole_of 2 59 m) (λ minutes. given (whole_of 2 0 s) (λ none.
-    Some (hours * 3600 + minutes * 60))))
-clock_of_parts other = None
+abbrev pub clock_of : List ℕ → List ℕ → List ℕ → Option ℕ
+clock_of h m s = given (whole_of 2 23 h) (λ hours. given (whole_of 2 59 m) (λ minutes. given (whole_of 2 0 s) (λ none. Some (hours * 3600 + minutes * 60))))
+
+abbrev pub date_of : List ℕ → Option ℤ
+date_of date = given (three (parts 46 date)) (λ p. day_of p.0 p.1 p.2)
+
+abbrev pub time_of : List ℕ → Option ℕ
+time_of time = given (three (parts 58 time)) (λ p. clock_of p.0 p.1 p.2)
 
 -- the seconds since 1970-01-01 00:00 of a date and a time
 abbrev pub moment : List ℕ → List ℕ → Option ℤ
-moment date time =
-    given (day_of_parts (parts 46 date)) (λ day. option_map (λ seconds. day *ℤ pos 86400 +ℤ pos seconds) (clock_of_parts (parts 58 time)))
+moment date time = given (date_of date) (λ day. given (time_of time) (λ seconds. Some (day *ℤ pos 86400 +ℤ pos seconds)))
 
 -- the prices of a bar, in units of 10^-8
 pub record Prices : Type 0 where

@@ -2,6 +2,8 @@
 #![tactic(auto)]
 
 mod bar;
+mod numbers;
+mod parts;
 mod quote;
 mod row_fault;
 
