@@ -183,10 +183,14 @@ pub record IsPrice (units : ℤ) : Type 0 where
   pub above : pos 0 <ℤ units
   pub most : units ≤ℤ pos greatest_price
 
+-- seconds since 1970-01-01 00:00 within some 30,000 years
+pub record IsMoment (seconds : ℤ) : Type 0 where
+  pub from : negsuc (10 ^ 12) ≤ℤ seconds
+  pub to : seconds ≤ℤ pos (10 ^ 12)
+
 -- the ranges that a bar of a file keeps
 pub record IsBar (bar : Bar) : Type 0 where
-  pub time_from : negsuc (10 ^ 12) ≤ℤ bar.time
-  pub time_to : bar.time ≤ℤ pos (10 ^ 12)
+  pub time : IsMoment bar.time
   pub opening : IsPrice bar.o
   pub high : IsPrice bar.h
   pub low : IsPrice bar.l

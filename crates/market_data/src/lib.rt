@@ -2,6 +2,7 @@
 #![tactic(auto)]
 
 mod bar;
+mod moment;
 mod numbers;
 mod parts;
 mod quote;
