@@ -1,7 +1,7 @@
 -- The definitions at a worked row.
 use Rattle.std.proofs.Common.{◌≡◌, Some, None, refl}
 use Rattle.std.specs.Prelude.{codes}
-use Rattle.market_data.specs.BarsFile.{whole, whole_of, price, prices, Prices, row, time_of}
+use Rattle.market_data.specs.BarsFile.{whole, whole_of, price, time_of}
 
 price_one : price (codes "1.1005") ≡ Some 110050000
 unfolding whole

@@ -6,6 +6,8 @@ use Rattle.std.specs.Str.{bytes_eq}
 use Rattle.jiff_core.specs.Calendar.{days_in_month, days_from_civil}
 use Rattle.std.specs.Borrow.{Bor}
 use Rattle.market_data.specs.declared.bar.Bar.{Bar}
+use Rattle.market_data.specs.declared.rows.Prices.{Prices}
+use Rattle.market_data.specs.declared.rows.Fields.{Fields}
 
 -- f of the value, where there is one
 abbrev pub given : {A B : Type 0} → Option A → (A → Option B) → Option B
@@ -101,24 +103,17 @@ time_of time = given (three (parts 58 time)) (λ p. clock_of p.0 p.1 p.2)
 abbrev pub moment : List ℕ → List ℕ → Option ℤ
 moment date time = given (date_of date) (λ day. given (time_of time) (λ seconds. Some (day *ℤ pos 86400 +ℤ pos seconds)))
 
--- the prices of a bar, in units of 10^-8
-pub record Prices : Type 0 where
-  pub opening : ℕ
-  pub high : ℕ
-  pub low : ℕ
-  pub closing : ℕ
-
 -- no high below and no low above another price of the bar
 abbrev pub is_range : ℕ → ℕ → ℕ → ℕ → Bool
 is_range o h l c = nat_le o h && nat_le c h && nat_le l o && nat_le l c && nat_le l h
 
-abbrev pub prices : List ℕ → List ℕ → List ℕ → List ℕ → Option Prices
-prices o h l c =
+abbrev pub prices_of : List ℕ → List ℕ → List ℕ → List ℕ → Option Prices
+prices_of o h l c =
     given (price o) (λ opens. given (price h) (λ highest. given (price l) (λ lowest. given (price c) (λ closes.
     provided (is_range opens highest lowest closes) (record { opening = opens; high = highest; low = lowest; closing = closes })))))
 
 -- the fields of a row, in the order of the header
-pub record Fields : Type 0 where
+pub record RowText : Type 0 where
   pub date : List ℕ
   pub time : List ℕ
   pub opening : List ℕ
@@ -129,15 +124,30 @@ pub record Fields : Type 0 where
   pub volume : List ℕ
   pub spread : List ℕ
 
-abbrev pub nine : List (List ℕ) → Option Fields
+-- what the fields of the program hold
+abbrev pub texts : Fields → RowText
+texts f = record {
+  date = f.date.now;
+  time = f.time.now;
+  opening = f.opening.now;
+  high = f.high.now;
+  low = f.low.now;
+  closing = f.closing.now;
+  tick_volume = f.tick_volume.now;
+  volume = f.volume.now;
+  spread = f.spread.now;
+}
+
+-- nine fields, and no more
+abbrev pub nine : List (List ℕ) → Option RowText
 nine (d ∷ t ∷ o ∷ h ∷ l ∷ c ∷ n ∷ v ∷ s ∷ []) =
     Some (record { date = d; time = t; opening = o; high = h; low = l; closing = c; tick_volume = n; volume = v; spread = s })
 nine other = None
 
 -- the bar that the fields say: volumes fit 64 bits, and the spread is at most 1,000,000 points
-abbrev pub bar_of : Fields → Option Bar
+abbrev pub bar_of : RowText → Option Bar
 bar_of f =
-    given (moment f.date f.time) (λ opens. given (prices f.opening f.high f.low f.closing) (λ p.
+    given (moment f.date f.time) (λ opens. given (prices_of f.opening f.high f.low f.closing) (λ p.
     given (whole (2 ^ 64 - 1) f.tick_volume) (λ ticks. given (whole (2 ^ 64 - 1) f.volume) (λ traded. given (whole 1000000 f.spread) (λ points.
     Some (record { time = opens; o = pos p.opening; h = pos p.high; l = pos p.low; c = pos p.closing; tick_volume = ticks; spread = points; volume = traded }))))))
 
@@ -182,6 +192,13 @@ bars_of text = given (ended (parts 10 text)) bars_of_lines
 pub record IsPrice (units : ℤ) : Type 0 where
   pub above : pos 0 <ℤ units
   pub most : units ≤ℤ pos greatest_price
+
+-- four prices
+pub record ArePrices (p : Prices) : Type 0 where
+  pub opening : IsPrice (pos p.opening)
+  pub high : IsPrice (pos p.high)
+  pub low : IsPrice (pos p.low)
+  pub closing : IsPrice (pos p.closing)
 
 -- seconds since 1970-01-01 00:00 within some 30,000 years
 pub record IsMoment (seconds : ℤ) : Type 0 where

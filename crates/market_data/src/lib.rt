@@ -7,6 +7,7 @@ mod numbers;
 mod parts;
 mod quote;
 mod row_fault;
+mod rows;
 
 pub use bar::{Bar, BarList};
 pub use quote::{Quote, QuoteList};
