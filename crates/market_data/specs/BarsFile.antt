@@ -1,11 +1,13 @@
 -- The form of a bars file, and the bars that it says (MetaTrader 5 Help, Bars: export of history).
-use Rattle.std.specs.Prelude.{ℕ, ◌+◌, ◌-◌, ◌*◌, ◌^◌, Bool, true, false, not, ◌&&◌, ◌==◌, nat_le, nat_lt, if◌then◌else◌, List, [], ◌∷◌, length, Option, Some, None, option_map, ℤ, pos, ◌+ℤ◌, ◌*ℤ◌, int_lt, ◌≤◌, ◌<ℤ◌, ◌≤ℤ◌, negsuc, codes}
+use Rattle.std.specs.Prelude.{ℕ, ◌+◌, ◌-◌, ◌*◌, ◌^◌, Bool, true, false, not, ◌&&◌, ◌==◌, nat_le, nat_lt, if◌then◌else◌, List, [], ◌∷◌, length, Option, Some, None, option_map, ℤ, pos, ◌+ℤ◌, ◌*ℤ◌, int_lt, ◌≤◌, ◌<ℤ◌, ◌≤ℤ◌, negsuc, codes, ◌≡◌}
 use Rattle.std.specs.Option.{option_and_then}
 use Rattle.std.specs.List.{slice_split}
 use Rattle.std.specs.Str.{bytes_eq}
 use Rattle.jiff_core.specs.Calendar.{days_in_month, days_from_civil}
 use Rattle.std.specs.Borrow.{Bor}
 use Rattle.market_data.specs.declared.bar.Bar.{Bar}
+use Rattle.market_data.specs.declared.row_fault.RowFault.{RowFault}
+use Rattle.market_data.specs.declared.row_fault.RowFault.TheVariants as fault
 use Rattle.market_data.specs.declared.rows.Prices.{Prices}
 use Rattle.market_data.specs.declared.rows.Fields.{Fields}
 
@@ -166,6 +168,10 @@ abbrev pub rows : List (List ℕ) → Option (List Bar)
 rows [] = Some []
 rows (line ∷ lines) = if length line == 0 then rows lines else given (row line) (λ bar. option_map (λ bars. bar ∷ bars) (rows lines))
 
+-- the bars of the parts round each LF
+abbrev pub bars_in : List (List ℕ) → Option (List Bar)
+bars_in parts = given (ended parts) rows
+
 -- the times of bars rise strictly
 abbrev pub is_rising : List Bar → Bool
 is_rising [] = true
@@ -213,3 +219,8 @@ pub record IsBar (bar : Bar) : Type 0 where
   pub low : IsPrice bar.l
   pub closing : IsPrice bar.c
   pub spread : bar.spread ≤ 1000000
+
+-- a fault of a text: want of memory is free, and else it is the fault of a text that has not the form
+abbrev pub IsFaultOf : List ℕ → RowFault → Type 0
+IsFaultOf text (fault.Rule row rule) = (row ≡ 0) × (rule ≡ 10) × (bars_of text ≡ None)
+IsFaultOf text fault.OutOfMemory = Unit {0}

@@ -2,6 +2,7 @@
 #![tactic(auto)]
 
 mod bar;
+mod bars_file;
 mod moment;
 mod numbers;
 mod parts;
@@ -10,5 +11,6 @@ mod row_fault;
 mod rows;
 
 pub use bar::{Bar, BarList};
+pub use bars_file::read_bars;
 pub use quote::{Quote, QuoteList};
 pub use row_fault::RowFault;
