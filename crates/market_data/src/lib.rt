@@ -7,10 +7,12 @@ mod moment;
 mod numbers;
 mod parts;
 mod quote;
+mod quotes;
 mod row_fault;
 mod rows;
 
 pub use bar::{Bar, BarList};
 pub use bars_file::read_bars;
 pub use quote::{Quote, QuoteList};
+pub use quotes::Quotes;
 pub use row_fault::RowFault;
