@@ -19,9 +19,9 @@ read_bad limit n b text d = rw d refl
 
 pub read_large : (limit n : ℕ) (text : List ℕ) → limit < n → read_after limit n text ≡ None
 read_large limit n text h =
-  let above : limit < number_after n text = let more = number_after_le n text in omega (arith, more) in
-  let out : nat_le (number_after n text) limit ≡ false = lt-leb _ _ above in
-  rw (and_right (all_digits text) (nat_le (number_after n text) limit) out) refl
+    let above : limit < number_after n text = let more = number_after_le n text in omega (arith, more) in
+    let out : nat_le (number_after n text) limit ≡ false = lt-leb _ _ above in
+    rw (and_right (all_digits text) (nat_le (number_after n text) limit) out) refl
 
 pub read_end : (limit n : ℕ) → n ≤ limit → read_after limit n [] ≡ Some n
 read_end limit n h = rw (le-leb n limit h) refl

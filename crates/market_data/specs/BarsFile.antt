@@ -4,12 +4,8 @@ use Rattle.std.specs.Option.{option_and_then}
 use Rattle.std.specs.List.{slice_split}
 use Rattle.std.specs.Str.{bytes_eq}
 use Rattle.jiff_core.specs.Calendar.{days_in_month, days_from_civil}
-use Rattle.std.specs.Borrow.{Bor}
 use Rattle.market_data.specs.declared.bar.Bar.{Bar}
-use Rattle.market_data.specs.declared.row_fault.RowFault.{RowFault}
-use Rattle.market_data.specs.declared.row_fault.RowFault.TheVariants as fault
 use Rattle.market_data.specs.declared.rows.Prices.{Prices}
-use Rattle.market_data.specs.declared.rows.Fields.{Fields}
 
 -- f of the value, where there is one
 abbrev pub given : {A B : Type 0} → Option A → (A → Option B) → Option B
@@ -22,11 +18,6 @@ provided test x = if test then Some x else None
 -- the parts of a text round each separator
 abbrev pub parts : ℕ → List ℕ → List (List ℕ)
 parts separator text = slice_split (λ b. b == separator) text
-
--- the parts of what is left of a text, if something is
-abbrev pub parts_left : ℕ → Option (Bor (List ℕ)) → List (List ℕ)
-parts_left separator None = []
-parts_left separator (Some text) = parts separator text.now
 
 -- a decimal digit
 abbrev pub is_digit : ℕ → Bool
@@ -126,20 +117,6 @@ pub record RowText : Type 0 where
   pub volume : List ℕ
   pub spread : List ℕ
 
--- what the fields of the program hold
-abbrev pub texts : Fields → RowText
-texts f = record {
-  date = f.date.now;
-  time = f.time.now;
-  opening = f.opening.now;
-  high = f.high.now;
-  low = f.low.now;
-  closing = f.closing.now;
-  tick_volume = f.tick_volume.now;
-  volume = f.volume.now;
-  spread = f.spread.now;
-}
-
 -- nine fields, and no more
 abbrev pub nine : List (List ℕ) → Option RowText
 nine (d ∷ t ∷ o ∷ h ∷ l ∷ c ∷ n ∷ v ∷ s ∷ []) =
@@ -219,8 +196,3 @@ pub record IsBar (bar : Bar) : Type 0 where
   pub low : IsPrice bar.l
   pub closing : IsPrice bar.c
   pub spread : bar.spread ≤ 1000000
-
--- a fault of a text: want of memory is free, and else it is the fault of a text that has not the form
-abbrev pub IsFaultOf : List ℕ → RowFault → Type 0
-IsFaultOf text (fault.Rule row rule) = (row ≡ 0) × (rule ≡ 10) × (bars_of text ≡ None)
-IsFaultOf text fault.OutOfMemory = Unit {0}

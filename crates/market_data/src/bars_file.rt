@@ -1,6 +1,7 @@
 //! The reading of a bars file.
 ghost use Rattle.std.specs.Prelude.{◌≡◌, Some, IfOk, IfErr, IfSome, All};
-ghost use Rattle.market_data.specs.BarsFile.{is_rising, in_order, bars_in, bars_of, header, IsBar, IsFaultOf};
+ghost use Rattle.market_data.specs.BarsFile.{is_rising, in_order, bars_in, bars_of, header, IsBar};
+ghost use Rattle.market_data.specs.Views.{IsFaultOf};
 ghost use Rattle.std.specs.Str.{bytes_eq};
 
 use crate::parts::Parts;

@@ -16,3 +16,6 @@ pub use bars_file::read_bars;
 pub use quote::{Quote, QuoteList};
 pub use quotes::Quotes;
 pub use row_fault::RowFault;
+
+#[cfg(test)]
+mod tests;

@@ -16,7 +16,11 @@ fn three<'a>(text: &'a [u8], separator: u8) -> Option<(&'a [u8], &'a [u8], &'a [
     let first = parts.next()?;
     let second = parts.next()?;
     let third = parts.next()?;
-    if parts.is_done() { Some((first, second, third)) } else { None }
+    if parts.is_done() {
+        Some((first, second, third))
+    } else {
+        None
+    }
 }
 
 /// The day number of a day of the calendar, of the years 1970 to 2999: days since 1970-01-01.

@@ -45,7 +45,11 @@ pub(crate) fn whole_of(digits: usize, limit: u64, text: &[u8]) -> Option<u64>
     ensures value { result ≡ whole_of digits limit text.now }
     ensures most { IfSome result (λ number. number ≤ limit) }
 {
-    if text.len() == digits { whole(limit, text) } else { None }
+    if text.len() == digits {
+        whole(limit, text)
+    } else {
+        None
+    }
 }
 
 /// 10 to a power.
@@ -112,5 +116,9 @@ pub(crate) fn price(text: &[u8]) -> Option<u64>
     ensures most { IfSome result (λ units. units ≤ greatest_price) }
 {
     let units = units_of(text)?;
-    if 0 < units && units <= GREATEST_PRICE { Some(units) } else { None }
+    if 0 < units && units <= GREATEST_PRICE {
+        Some(units)
+    } else {
+        None
+    }
 }

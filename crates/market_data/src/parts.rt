@@ -13,7 +13,7 @@ pub(crate) struct Parts<'a> {
 
 impl<'a> Model for Parts<'a> {
     ghost use Rattle.std.specs.Prelude.{ℕ, List};
-    ghost use Rattle.market_data.specs.BarsFile.{parts_left};
+    ghost use Rattle.market_data.specs.Views.{parts_left};
 
     ghost Value = { List (List ℕ) };
 

@@ -1,6 +1,7 @@
 //! The quotes that bars give at opening prices.
 ghost use Rattle.std.specs.Prelude.{◌≡◌, ◌≤◌, ◌*◌, pos, ◌+ℤ◌, ◌*ℤ◌, [], ◌∷◌, MatchOption, All, ◌^◌};
-ghost use Rattle.market_data.specs.Quotes.{point, quote, rises, price_at, seconds_at, is_loud, opening_quotes};
+ghost use Rattle.market_data.specs.Quotes.{point, quote, rises, opening_quotes};
+ghost use Rattle.market_data.specs.Stages.{price_at, seconds_at, is_loud};
 ghost use Rattle.market_data.specs.BarsFile.{IsBar, IsPrice};
 
 use crate::{Bar, BarList, Quote};
@@ -138,7 +139,7 @@ impl<'a> Model for Quotes<'a> {
     ghost use Rattle.std.specs.Prelude.{List, ◌≤◌, All};
     ghost use Rattle.market_data.specs.declared.quote.Quote.{Quote};
     ghost use Rattle.market_data.specs.BarsFile.{IsBar};
-    ghost use Rattle.market_data.specs.Quotes.{quotes_left};
+    ghost use Rattle.market_data.specs.Stages.{quotes_left};
 
     ghost Value = { List Quote };
 

@@ -1,6 +1,7 @@
 //! The rows of a bars file.
 ghost use Rattle.std.specs.Prelude.{◌≡◌, ◌≤◌, ◌^◌, pos, None, Some, MatchOption, IfSome};
-ghost use Rattle.market_data.specs.BarsFile.{parts, nine, texts, is_range, prices_of, bar_of, row, IsBar, ArePrices};
+ghost use Rattle.market_data.specs.BarsFile.{parts, nine, is_range, prices_of, bar_of, row, IsBar, ArePrices};
+ghost use Rattle.market_data.specs.Views.{texts};
 
 use crate::Bar;
 use crate::moment::moment;

@@ -8,7 +8,7 @@ use Rattle.market_data.proofs.bars_file.bars_in.Given as goal
 abbrev pub invariant-loop-line : goal.invariant-loop-line
 invariant-loop-line l = record {
   left : bars_in l.initial.lines ≡ option_map (λ (more : List Bar). l.bars ++ more) (bars_in l.lines);
-  ranges : All IsBar l.bars
+  ranges : All IsBar l.bars;
 }
 
 abbrev pub decreases-loop-line : goal.decreases-loop-line

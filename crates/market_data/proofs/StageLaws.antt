@@ -6,7 +6,8 @@ use Rattle.market_data.specs.declared.quote.Quote.{Quote}
 use Rattle.market_data.specs.declared.bar.Bar.{Bar}
 use Rattle.market_data.specs.declared.quotes.Stage.{Stage}
 use Rattle.market_data.specs.declared.quotes.Stage.TheVariants as stage
-use Rattle.market_data.specs.Quotes.{quote, price_at, seconds_at, is_loud, opening_quotes, quotes_left}
+use Rattle.market_data.specs.Quotes.{quote, opening_quotes}
+use Rattle.market_data.specs.Stages.{price_at, seconds_at, is_loud, quotes_left}
 
 pub none_left : (digits : ℕ) (at : Stage) → quotes_left digits [] at ≡ []
 unfolding opening_quotes
@@ -39,8 +40,8 @@ after_closing digits bar rest = refl
 pub first_and_rest : (bars : List Bar) (bar : Bar) → 1 ≤ length bars → bar ≡ get_or bars 0 bar → bars ≡ bar ∷ take (length bars - 1) (drop 1 bars)
 first_and_rest [] bar some is = absurd (omega arith)
 first_and_rest (b ∷ rest) bar some is =
-  let all : take (length (b ∷ rest) - 1) rest ≡ rest = take_all _ rest (omega arith) in
-  ap (λ (x : Bar). x ∷ rest) (sym is) ∙ ap (λ (more : List Bar). bar ∷ more) (sym all)
+    let all : take (length (b ∷ rest) - 1) rest ≡ rest = take_all _ rest (omega arith) in
+    ap (λ (x : Bar). x ∷ rest) (sym is) ∙ ap (λ (more : List Bar). bar ∷ more) (sym all)
 
 -- the quote of a bar at a stage
 abbrev quote_at : ℕ → Bar → Stage → Quote
@@ -51,32 +52,32 @@ next_by : (digits : ℕ) (bars : List Bar) (bar : Bar) (at here : Stage) (given 
     → quotes_left digits bars at ≡ view → at ≡ here → given ≡ quote_at digits bar at
     → quotes_left digits bars here ≡ quote_at digits bar here ∷ left → view ≡ given ∷ left
 next_by digits bars bar at here given view left v s e law =
-  sym v ∙ ap (quotes_left digits bars) s ∙ law ∙ ap (λ (q : Quote). q ∷ left) (sym (e ∙ ap (quote_at digits bar) s))
+    sym v ∙ ap (quotes_left digits bars) s ∙ law ∙ ap (λ (q : Quote). q ∷ left) (sym (e ∙ ap (quote_at digits bar) s))
 
 module _ (digits : ℕ) (bars : List Bar) (bar : Bar) (at : Stage) (given : Quote) (view : List Quote)
     (v : quotes_left digits bars at ≡ view) (some : 1 ≤ length bars) (is : bar ≡ get_or bars 0 bar) (e : given ≡ quote_at digits bar at) where
   pub next_opening : at ≡ stage.Opening → view ≡ given ∷ quotes_left digits bars stage.Early
   next_opening s =
-    let split = first_and_rest bars bar some is in
-    next_by digits bars bar at stage.Opening given view (quotes_left digits bars stage.Early) v s e
+      let split = first_and_rest bars bar some is in
+      next_by digits bars bar at stage.Opening given view (quotes_left digits bars stage.Early) v s e
       (ap (λ (bs : List Bar). quotes_left digits bs stage.Opening) split ∙ after_opening digits bar _ ∙ ap (λ (bs : List Bar). quote_at digits bar stage.Opening ∷ quotes_left digits bs stage.Early) (sym split))
 
   pub next_early : at ≡ stage.Early → view ≡ given ∷ quotes_left digits bars stage.Late
   next_early s =
-    let split = first_and_rest bars bar some is in
-    next_by digits bars bar at stage.Early given view (quotes_left digits bars stage.Late) v s e
+      let split = first_and_rest bars bar some is in
+      next_by digits bars bar at stage.Early given view (quotes_left digits bars stage.Late) v s e
       (ap (λ (bs : List Bar). quotes_left digits bs stage.Early) split ∙ after_early digits bar _ ∙ ap (λ (bs : List Bar). quote_at digits bar stage.Early ∷ quotes_left digits bs stage.Late) (sym split))
 
   pub next_late : at ≡ stage.Late → view ≡ given ∷ quotes_left digits bars stage.Closing
   next_late s =
-    let split = first_and_rest bars bar some is in
-    next_by digits bars bar at stage.Late given view (quotes_left digits bars stage.Closing) v s e
+      let split = first_and_rest bars bar some is in
+      next_by digits bars bar at stage.Late given view (quotes_left digits bars stage.Closing) v s e
       (ap (λ (bs : List Bar). quotes_left digits bs stage.Late) split ∙ after_late digits bar _ ∙ ap (λ (bs : List Bar). quote_at digits bar stage.Late ∷ quotes_left digits bs stage.Closing) (sym split))
 
   pub next_closing : at ≡ stage.Closing → view ≡ given ∷ quotes_left digits (take (length bars - 1) (drop 1 bars)) stage.Opening
   next_closing s =
-    let split = first_and_rest bars bar some is in
-    next_by digits bars bar at stage.Closing given view (quotes_left digits (take (length bars - 1) (drop 1 bars)) stage.Opening) v s e
+      let split = first_and_rest bars bar some is in
+      next_by digits bars bar at stage.Closing given view (quotes_left digits (take (length bars - 1) (drop 1 bars)) stage.Opening) v s e
       (ap (λ (bs : List Bar). quotes_left digits bs stage.Closing) split ∙ after_closing digits bar _)
 
 -- no bar is left
@@ -88,6 +89,6 @@ all_given digits (bar ∷ bars) at view v none = absurd (omega arith)
 pub rest_keeps : (bars : List Bar) → All IsBar bars → All IsBar (take (length bars - 1) (drop 1 bars))
 rest_keeps [] all k d small = absurd (omega arith)
 rest_keeps (b ∷ bars) all k d small =
-  let same : take (length (b ∷ bars) - 1) bars ≡ bars = take_all _ bars (omega arith) in
-  let within : k < length bars = omega (arith, ap length same) in
-  subst (λ (bs : List Bar). IsBar (get_or bs k d)) (sym same) (all (suc k) d (omega arith))
+    let same : take (length (b ∷ bars) - 1) bars ≡ bars = take_all _ bars (omega arith) in
+    let within : k < length bars = omega (arith, ap length same) in
+    subst (λ (bs : List Bar). IsBar (get_or bs k d)) (sym same) (all (suc k) d (omega arith))
