@@ -183,10 +183,15 @@ pub record ArePrices (p : Prices) : Type 0 where
   pub low : IsPrice (pos p.low)
   pub closing : IsPrice (pos p.closing)
 
--- seconds since 1970-01-01 00:00 within some 30,000 years
+-- a day number of the years 1970 to 2999
+pub record IsDayNumber (day : ℤ) : Type 0 where
+  pub from : pos 0 ≤ℤ day
+  pub to : day <ℤ pos 376200
+
+-- seconds since 1970-01-01 00:00 of a time in the years 1970 to 2999
 pub record IsMoment (seconds : ℤ) : Type 0 where
-  pub from : negsuc (10 ^ 12) ≤ℤ seconds
-  pub to : seconds ≤ℤ pos (10 ^ 12)
+  pub from : pos 0 ≤ℤ seconds
+  pub to : seconds <ℤ pos 32503680000
 
 -- the ranges that a bar of a file keeps
 pub record IsBar (bar : Bar) : Type 0 where
