@@ -24,12 +24,12 @@ module _ (name : List ℕ) (limit : ℕ) (next : List ℕ → Plan) (held : Cont
     pub given_later : (s : Status) (text : List ℕ) (after : Contents) → Gives (next bytes) held s text after → Gives (Reads name limit next) held s text after
     given_later s text after g =
         subst (λ o. AfterReading name limit (λ bytes. Gives (next bytes)) o held s text after) (sym holds)
-          (subst (λ b. MatchBool b (refusal (TooLarge name) held s text after) (Gives (next bytes) held s text after)) (sym (le-ltb limit (length bytes) within)) g)
+        (subst (λ b. MatchBool b (refusal (TooLarge name) held s text after) (Gives (next bytes) held s text after)) (sym (le-ltb limit (length bytes) within)) g)
 
     reached_later : (wanted : List ℕ) → Reaches (next bytes) wanted held → Reaches (Reads name limit next) wanted held
     reached_later wanted r =
         inr (subst (λ o. ReachesAfter limit (λ bytes. Reaches (next bytes) wanted held) o) (sym holds)
-          (subst (λ b. MatchBool b ⊥ (Reaches (next bytes) wanted held)) (sym (le-ltb limit (length bytes) within)) r))
+        (subst (λ b. MatchBool b ⊥ (Reaches (next bytes) wanted held)) (sym (le-ltb limit (length bytes) within)) r))
 
 module _ (usage : ℕ → Type 0) (name : List ℕ) (limit : ℕ) (next : List ℕ → Plan) (told : Option Contents) where
   pub refused_here : (before now : ReadCounts) (status : Status) → ReadingRefused name limit told before now status → Refused usage (Reads name limit next) told before now status
