@@ -1,5 +1,5 @@
 -- The form of a bars file, and the bars that it says (MetaTrader 5 Help, Bars: export of history).
-use Rattle.std.specs.Prelude.{ℕ, ◌+◌, ◌-◌, ◌*◌, ◌^◌, Bool, true, false, not, ◌&&◌, ◌==◌, nat_le, nat_lt, if◌then◌else◌, List, [], ◌∷◌, length, Option, Some, None, option_map, ℤ, pos, ◌+ℤ◌, ◌*ℤ◌, int_lt, ◌≤◌, ◌<ℤ◌, ◌≤ℤ◌, negsuc, codes, ◌≡◌}
+use Rattle.std.specs.Prelude.{ℕ, ◌+◌, ◌-◌, ◌*◌, ◌^◌, Bool, true, ◌&&◌, ◌==◌, nat_le, nat_lt, if◌then◌else◌, List, [], ◌∷◌, length, Option, Some, None, option_map, ℤ, pos, ◌+ℤ◌, ◌*ℤ◌, int_lt, ◌≤◌, ◌<ℤ◌, ◌≤ℤ◌, negsuc, codes}
 use Rattle.std.specs.Option.{option_and_then}
 use Rattle.std.specs.List.{slice_split}
 use Rattle.std.specs.Str.{bytes_eq}
