@@ -1,5 +1,5 @@
 -- The form of a bars file, and the bars that it says (MetaTrader 5 Help, Bars: export of history).
-use Rattle.std.specs.Prelude.{ℕ, ◌+◌, ◌-◌, ◌*◌, ◌^◌, Bool, true, ◌&&◌, ◌==◌, nat_le, nat_lt, if◌then◌else◌, List, [], ◌∷◌, length, Option, Some, None, option_map, ℤ, pos, ◌+ℤ◌, ◌*ℤ◌, int_lt, ◌≤◌, ◌<ℤ◌, ◌≤ℤ◌, negsuc, codes}
+use Rattle.std.specs.Prelude.{ℕ, ◌+◌, ◌-◌, ◌*◌, ◌^◌, Bool, true, ◌&&◌, ◌==◌, nat_le, nat_lt, if◌then◌else◌, List, [], ◌∷◌, length, Option, Some, None, option_map, ℤ, pos, ◌+ℤ◌, ◌*ℤ◌, int_lt, ◌≤◌, ◌<ℤ◌, ◌≤ℤ◌, codes}
 use Rattle.std.specs.Option.{option_and_then}
 use Rattle.std.specs.List.{slice_split}
 use Rattle.std.specs.Str.{bytes_eq}
@@ -183,10 +183,15 @@ pub record ArePrices (p : Prices) : Type 0 where
   pub low : IsPrice (pos p.low)
   pub closing : IsPrice (pos p.closing)
 
--- seconds since 1970-01-01 00:00 within some 30,000 years
+-- the day number of a day from 1970.01.01 to 2999.12.31
+pub record IsDayNumber (day : ℤ) : Type 0 where
+  pub from : pos 0 ≤ℤ day
+  pub to : day ≤ℤ pos 376199
+
+-- a moment from 1970.01.01 00:00:00 to 2999.12.31 23:59:00, in seconds since the first
 pub record IsMoment (seconds : ℤ) : Type 0 where
-  pub from : negsuc (10 ^ 12) ≤ℤ seconds
-  pub to : seconds ≤ℤ pos (10 ^ 12)
+  pub from : pos 0 ≤ℤ seconds
+  pub to : seconds ≤ℤ pos 32503679940
 
 -- the ranges that a bar of a file keeps
 pub record IsBar (bar : Bar) : Type 0 where

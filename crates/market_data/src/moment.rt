@@ -1,7 +1,6 @@
 //! Dates and times as a price file writes them.
 ghost use Rattle.std.specs.Prelude.{◌≡◌, ◌≤◌, Some, None, MatchOption, IfSome};
-ghost use Rattle.jiff_core.specs.Calendar.{IsEpochDay};
-ghost use Rattle.market_data.specs.BarsFile.{parts, three, day_number, day_of, clock_of, date_of, time_of, moment, IsMoment};
+ghost use Rattle.market_data.specs.BarsFile.{parts, three, day_number, day_of, clock_of, date_of, time_of, moment, IsDayNumber, IsMoment};
 
 use crate::numbers::whole_of;
 use crate::parts::Parts;
@@ -29,7 +28,7 @@ fn day_number(year: u64, month: u64, day: u64) -> Option<i64>
     requires month { month ≤ 12 }
     requires day { day ≤ 31 }
     ensures value { result ≡ day_number year month day }
-    ensures within { IfSome result IsEpochDay }
+    ensures within { IfSome result IsDayNumber }
 {
     if year < 1970 {
         return None;
@@ -43,7 +42,7 @@ fn day_number(year: u64, month: u64, day: u64) -> Option<i64>
 /// The day number of a date.
 fn day_of(year: &[u8], month: &[u8], day: &[u8]) -> Option<i64>
     ensures value { result ≡ day_of year.now month.now day.now }
-    ensures within { IfSome result IsEpochDay }
+    ensures within { IfSome result IsDayNumber }
 {
     let year = whole_of(4, 2999, year)?;
     let month = whole_of(2, 12, month)?;
@@ -54,7 +53,7 @@ fn day_of(year: &[u8], month: &[u8], day: &[u8]) -> Option<i64>
 /// The seconds since midnight of a time, whose seconds are 00.
 fn clock_of(hours: &[u8], minutes: &[u8], seconds: &[u8]) -> Option<u64>
     ensures value { result ≡ clock_of hours.now minutes.now seconds.now }
-    ensures within { IfSome result (λ s. s ≤ 86400) }
+    ensures within { IfSome result (λ s. s ≤ 86340) }
 {
     let hours = whole_of(2, 23, hours)?;
     let minutes = whole_of(2, 59, minutes)?;
@@ -65,7 +64,7 @@ fn clock_of(hours: &[u8], minutes: &[u8], seconds: &[u8]) -> Option<u64>
 /// The day number of a date such as 2020.01.02.
 fn date_of(date: &[u8]) -> Option<i64>
     ensures value { result ≡ date_of date.now }
-    ensures within { IfSome result IsEpochDay }
+    ensures within { IfSome result IsDayNumber }
 {
     let (year, month, day) = three(date, b'.')?;
     day_of(year, month, day)
@@ -74,7 +73,7 @@ fn date_of(date: &[u8]) -> Option<i64>
 /// The seconds since midnight of a time such as 10:00:00.
 fn time_of(time: &[u8]) -> Option<u64>
     ensures value { result ≡ time_of time.now }
-    ensures within { IfSome result (λ s. s ≤ 86400) }
+    ensures within { IfSome result (λ s. s ≤ 86340) }
 {
     let (hours, minutes, seconds) = three(time, b':')?;
     clock_of(hours, minutes, seconds)
