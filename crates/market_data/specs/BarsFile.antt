@@ -1,5 +1,5 @@
 -- The form of a bars file, and the bars that it says (MetaTrader 5 Help, Bars: export of history).
-use Rattle.std.specs.Prelude.{ℕ, ◌+◌, ◌-◌, ◌*◌, ◌^◌, Bool, true, ◌&&◌, ◌==◌, nat_le, nat_lt, if◌then◌else◌, List, [], ◌∷◌, length, Option, Some, None, option_map, ℤ, pos, ◌+ℤ◌, ◌*ℤ◌, int_lt, ◌≤◌, ◌<ℤ◌, ◌≤ℤ◌, codes}
+use Rattle.std.specs.Prelude.{ℕ, ◌+◌, ◌-◌, ◌*◌, ◌^◌, Bool, true, ◌&&◌, ◌==◌, nat_le, nat_lt, if◌then◌else◌, List, [], ◌∷◌, length, Option, Some, None, option_map, ℤ, pos, ◌+ℤ◌, ◌*ℤ◌, int_lt, ◌≤◌, ◌<ℤ◌, ◌≤ℤ◌, codes, ◌≡◌}
 use Rattle.std.specs.Option.{option_and_then}
 use Rattle.std.specs.List.{slice_split}
 use Rattle.std.specs.Str.{bytes_eq}
@@ -155,7 +155,12 @@ is_rising [] = true
 is_rising (bar ∷ []) = true
 is_rising (bar ∷ next ∷ more) = int_lt bar.time next.time && is_rising (next ∷ more)
 
--- bars whose times rise, at most 4,000,000
+-- the bars of a file: their times rise, and there are at most 4,000,000
+pub record IsInOrder (bars : List Bar) : Type 0 where
+  pub rising : is_rising bars ≡ true
+  pub few : length bars ≤ 4000000
+
+-- bars that are in order
 abbrev pub in_order : List Bar → Option (List Bar)
 in_order bars = provided (is_rising bars && nat_le (length bars) 4000000) bars
 
