@@ -33,8 +33,8 @@ start_of_3000 = day_count-early _ 12999 1 1 refl (omega arith) (omega arith) (om
 -- a year from 1970 on begins no earlier than 1970
 not_before : (year : ℕ) → 1970 ≤ year → day_count (pos 1970) 1 1 ≤ day_count (pos year) 1 1
 not_before year h = by_lt_z (pos 1970) (pos year)
-  (λ lt. omega (arith, day_count-later_year (pos 1970) (pos year) (omega (arith, ints)) lt))
-  (λ le. let e : year ≡ 1970 = omega (arith, ints) in rw e (omega arith))
+    (λ lt. omega (arith, day_count-later_year (pos 1970) (pos year) (omega (arith, ints)) lt))
+    (λ le. let e : year ≡ 1970 = omega (arith, ints) in rw e (omega arith))
 
 -- a day is one of its year's days
 first_day : (y : ℤ) (m d : ℕ) → 1 ≤ d → 1 ≤ day_of_year y m d
@@ -46,10 +46,10 @@ civil_from year month day d = (d.0, (omega (arith, ints, d.1.0), omega (arith, i
 pub day_range : (year month day : ℕ) → 1970 ≤ year → year ≤ 2999 → IsDate (pos year) (pos month) (pos day) → IsDayNumber (days_from_civil (pos year) month day)
 unfolding days_from_civil
 day_range year month day from to d =
-  let c = civil_from year month day d in
-  let low : day_count (pos 1970) 1 1 ≤ day_count (pos year) month day =
+    let c = civil_from year month day d in
+    let low : day_count (pos 1970) 1 1 ≤ day_count (pos year) month day =
     omega (arith, not_before year from, day_count-day_of_year (pos year) month day c.2.0, first_day (pos year) month day c.2.0) in
-  let high : day_count (pos year) month day < day_count (pos 3000) 1 1 = day_count-lt_year (pos year) month day (pos 3000) 1 1 c (omega arith) (omega (arith, ints)) in
-  let high_is : day_count (pos year) month day < 4_748_153 = omega (arith, start_of_3000) in
-  let low_is : 4_371_953 ≤ day_count (pos year) month day = omega (arith, start_of_1970) in
-  record { from = omega (arith, ints, start_of_1970); to = omega (arith, ints, start_of_1970) }
+    let high : day_count (pos year) month day < day_count (pos 3000) 1 1 = day_count-lt_year (pos year) month day (pos 3000) 1 1 c (omega arith) (omega (arith, ints)) in
+    let high_is : day_count (pos year) month day < 4_748_153 = omega (arith, start_of_3000) in
+    let low_is : 4_371_953 ≤ day_count (pos year) month day = omega (arith, start_of_1970) in
+    record { from = omega (arith, ints, start_of_1970); to = omega (arith, ints, start_of_1970) }
