@@ -1,5 +1,5 @@
 -- How the bars of a text follow from its first line and the lines after it.
-use Rattle.std.proofs.Common.{◌≡◌, ℕ, Bool, true, false, List, [], ◌∷◌, ◌++◌, length, Some, None, Option, eqb, ◌==◌, refl, sym, ap, ◌∙◌, subst, arith, append_assoc, if◌then◌else◌, cond, ne_eqb, eq-eqb, IfSome}
+use Rattle.std.proofs.Common.{◌≡◌, ℕ, Bool, true, false, List, [], ◌∷◌, ◌++◌, length, Some, None, Option, ◌==◌, refl, sym, ap, ◌∙◌, arith, append_assoc, ne_eqb}
 use Rattle.std.specs.Option.{option_map}
 use Rattle.market_data.specs.BarsFile.{ended, rows, row, bars_in, given, parts, bars_of, bars_of_lines, in_order, header, provided}
 use Rattle.std.specs.Str.{bytes_eq}

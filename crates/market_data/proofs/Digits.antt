@@ -1,6 +1,6 @@
 -- How a whole number is read, one digit after another.
-use Rattle.std.proofs.Common.{◌≡◌, ℕ, ◌+◌, ◌-◌, ◌*◌, ◌<◌, ◌≤◌, Bool, true, false, ◌&&◌, List, [], ◌∷◌, length, get_or, Some, None, Option, nat_le, nat_lt, refl, sym, ap, ◌∙◌, arith, le_trans, le_refl}
-use Rattle.std.proofs.lemmas.Bool.{and_parts, and_left, and_right, lt-leb, lt-ltb, le-leb, le-ltb}
+use Rattle.std.proofs.Common.{◌≡◌, ℕ, ◌+◌, ◌-◌, ◌*◌, ◌<◌, ◌≤◌, true, false, ◌&&◌, List, [], ◌∷◌, length, get_or, Some, None, Option, nat_le, refl, ◌∙◌, arith, le_refl}
+use Rattle.std.proofs.lemmas.Bool.{and_right, lt-leb, lt-ltb, le-leb}
 use Rattle.market_data.specs.BarsFile.{is_digit, all_digits, number_after, provided, whole}
 
 -- what is read of the digits that are left, after a number

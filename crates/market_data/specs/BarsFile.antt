@@ -1,5 +1,5 @@
 -- The form of a bars file, and the bars that it says (MetaTrader 5 Help, Bars: export of history).
-use Rattle.std.specs.Prelude.{ℕ, ◌+◌, ◌-◌, ◌*◌, ◌^◌, Bool, true, false, not, ◌&&◌, ◌==◌, nat_le, nat_lt, if◌then◌else◌, List, [], ◌∷◌, length, Option, Some, None, option_map, ℤ, pos, ◌+ℤ◌, ◌*ℤ◌, int_lt, ◌≤◌, ◌<ℤ◌, ◌≤ℤ◌, negsuc, codes, ◌≡◌}
+use Rattle.std.specs.Prelude.{ℕ, ◌+◌, ◌-◌, ◌*◌, ◌^◌, Bool, true, ◌&&◌, ◌==◌, nat_le, nat_lt, if◌then◌else◌, List, [], ◌∷◌, length, Option, Some, None, option_map, ℤ, pos, ◌+ℤ◌, ◌*ℤ◌, int_lt, ◌≤◌, ◌<ℤ◌, ◌≤ℤ◌, codes, ◌≡◌}
 use Rattle.std.specs.Option.{option_and_then}
 use Rattle.std.specs.List.{slice_split}
 use Rattle.std.specs.Str.{bytes_eq}
@@ -155,7 +155,12 @@ is_rising [] = true
 is_rising (bar ∷ []) = true
 is_rising (bar ∷ next ∷ more) = int_lt bar.time next.time && is_rising (next ∷ more)
 
--- bars whose times rise, at most 4,000,000
+-- the bars of a file: their times rise, and there are at most 4,000,000
+pub record IsInOrder (bars : List Bar) : Type 0 where
+  pub rising : is_rising bars ≡ true
+  pub few : length bars ≤ 4000000
+
+-- bars that are in order
 abbrev pub in_order : List Bar → Option (List Bar)
 in_order bars = provided (is_rising bars && nat_le (length bars) 4000000) bars
 
@@ -183,15 +188,15 @@ pub record ArePrices (p : Prices) : Type 0 where
   pub low : IsPrice (pos p.low)
   pub closing : IsPrice (pos p.closing)
 
--- a day number of the years 1970 to 2999
+-- the day number of a day from 1970.01.01 to 2999.12.31
 pub record IsDayNumber (day : ℤ) : Type 0 where
   pub from : pos 0 ≤ℤ day
-  pub to : day <ℤ pos 376200
+  pub to : day ≤ℤ pos 376199
 
--- seconds since 1970-01-01 00:00 of a time in the years 1970 to 2999
+-- a moment from 1970.01.01 00:00:00 to 2999.12.31 23:59:00, in seconds since the first
 pub record IsMoment (seconds : ℤ) : Type 0 where
   pub from : pos 0 ≤ℤ seconds
-  pub to : seconds <ℤ pos 32503680000
+  pub to : seconds ≤ℤ pos 32503679940
 
 -- the ranges that a bar of a file keeps
 pub record IsBar (bar : Bar) : Type 0 where

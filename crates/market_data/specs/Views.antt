@@ -1,5 +1,6 @@
 -- What contracts read of the program's own types, in the words of the bars file.
-use Rattle.std.specs.Prelude.{◌≡◌, ℕ, List, [], Option, Some, None}
+use Rattle.std.specs.Prelude.{◌≡◌, ℕ, List, [], ◌++◌, Option, Some, None, codes}
+use Rattle.std.specs.Fmt.{decimal}
 use Rattle.std.specs.Borrow.{Bor}
 use Rattle.market_data.specs.BarsFile.{parts, RowText, bars_of}
 use Rattle.market_data.specs.declared.row_fault.RowFault.{RowFault}
@@ -29,3 +30,8 @@ texts f = record {
 abbrev pub IsFaultOf : List ℕ → RowFault → Type 0
 IsFaultOf text (fault.Rule row rule) = (row ≡ 0) × (rule ≡ 10) × (bars_of text ≡ None)
 IsFaultOf text fault.OutOfMemory = Unit {0}
+
+-- what a fault says of itself
+abbrev pub fault_text : RowFault → List ℕ
+fault_text (fault.Rule row rule) = codes "row " ++ (decimal row ++ (codes " breaks rule " ++ decimal rule))
+fault_text fault.OutOfMemory = codes "out of memory"

@@ -1,6 +1,6 @@
 //! The reading of a bars file.
-ghost use Rattle.std.specs.Prelude.{◌≡◌, Some, IfOk, IfErr, IfSome, All, ◌≤◌, length};
-ghost use Rattle.market_data.specs.BarsFile.{is_rising, in_order, bars_in, bars_of, header, IsBar};
+ghost use Rattle.std.specs.Prelude.{◌≡◌, Some, IfOk, IfErr, IfSome, All};
+ghost use Rattle.market_data.specs.BarsFile.{is_rising, in_order, bars_in, bars_of, header, IsBar, IsInOrder};
 ghost use Rattle.market_data.specs.Views.{IsFaultOf};
 ghost use Rattle.std.specs.Str.{bytes_eq};
 
@@ -59,7 +59,8 @@ fn bars_in(alloc: Global, mut lines: Parts<'_>) -> Result<Option<BarList>, OutOf
 /// Bars whose times rise strictly and that are not too many.
 fn in_order(bars: BarList) -> Option<BarList>
     ensures value { result ≡ in_order bars }
-    ensures few { IfSome result (λ found. length found ≤ 4000000) }
+    ensures same { IfSome result (λ kept. kept ≡ bars) }
+    ensures order { IfSome result IsInOrder }
 {
     if is_rising(bars.as_slice()) && bars.len() <= GREATEST_COUNT {
         Some(bars)
@@ -80,7 +81,7 @@ fn is_header(line: &[u8]) -> bool
 fn bars_of(alloc: Global, bytes: &[u8]) -> Result<Option<BarList>, OutOfMemory>
     ensures value { IfOk result (λ bars. bars ≡ bars_of bytes.now) }
     ensures ranges { IfOk result (λ bars. IfSome bars (All IsBar)) }
-    ensures few { IfOk result (λ bars. IfSome bars (λ found. length found ≤ 4000000)) }
+    ensures order { IfOk result (λ bars. IfSome bars IsInOrder) }
 {
     let mut lines = Parts::of(bytes, b'\n');
     match lines.next() {
@@ -112,7 +113,7 @@ fn bars_of(alloc: Global, bytes: &[u8]) -> Result<Option<BarList>, OutOfMemory>
 pub fn read_bars(alloc: Global, bytes: &[u8]) -> Result<BarList, RowFault>
     ensures ok { IfOk result (λ bars. bars_of bytes.now ≡ Some bars) }
     ensures ranges { IfOk result (All IsBar) }
-    ensures few { IfOk result (λ bars. length bars ≤ 4000000) }
+    ensures order { IfOk result IsInOrder }
     ensures fault { IfErr result (IsFaultOf bytes.now) }
 {
     match bars_of(alloc, bytes)? {

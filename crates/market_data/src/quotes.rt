@@ -1,6 +1,6 @@
 //! The quotes that bars give at opening prices.
-ghost use Rattle.std.specs.Prelude.{◌≡◌, ◌≤◌, ◌*◌, pos, ◌+ℤ◌, ◌*ℤ◌, [], ◌∷◌, MatchOption, All, ◌^◌};
-ghost use Rattle.market_data.specs.Quotes.{point, quote, rises, opening_quotes};
+ghost use Rattle.std.specs.Prelude.{◌≡◌, ◌≤◌, ◌*◌, pos, ◌+ℤ◌, ◌*ℤ◌, ◌≤ℤ◌, [], ◌∷◌, MatchOption, IfSome, All, ◌^◌};
+ghost use Rattle.market_data.specs.Quotes.{point, quote, rises, opening_quotes, IsQuote};
 ghost use Rattle.market_data.specs.Stages.{price_at, seconds_at, is_loud};
 ghost use Rattle.market_data.specs.BarsFile.{IsBar, IsPrice};
 
@@ -86,7 +86,9 @@ fn ask(bid: Fix8, spread: u32, digits: u8) -> Fix8
     requires bid { IsPrice bid }
     requires spread { spread ≤ 1000000 }
     requires digits { digits ≤ 8 }
-    ensures { result ≡ bid +ℤ pos (spread * point digits) }
+    ensures value { result ≡ bid +ℤ pos (spread * point digits) }
+    ensures from { bid ≤ℤ result }
+    ensures to { result ≤ℤ (bid +ℤ pos (10 ^ 14)) }
 {
     Fix8::of_units(bid.units() + spread as i64 * point(digits))
 }
@@ -94,7 +96,9 @@ fn ask(bid: Fix8, spread: u32, digits: u8) -> Fix8
 /// When the bar is at a stage, in milliseconds.
 fn time_at(bar: &Bar, stage: Stage) -> i64
     requires { IsBar bar.now }
-    ensures { result ≡ (bar.now.time +ℤ pos (seconds_at stage)) *ℤ pos 1000 }
+    ensures value { result ≡ (bar.now.time +ℤ pos (seconds_at stage)) *ℤ pos 1000 }
+    ensures from { pos 0 ≤ℤ result }
+    ensures to { result ≤ℤ pos 32503679999000 }
 {
     (bar.time + stage.seconds()) * 1000
 }
@@ -120,7 +124,8 @@ fn quote_of(time_ms: i64, bid: Fix8, ask: Fix8, loud: bool) -> Quote
 fn quote_at(bar: &Bar, digits: u8, stage: Stage) -> Quote
     requires bar { IsBar bar.now }
     requires digits { digits ≤ 8 }
-    ensures { result ≡ quote digits bar.now (seconds_at stage) (price_at bar.now stage) (is_loud stage) }
+    ensures value { result ≡ quote digits bar.now (seconds_at stage) (price_at bar.now stage) (is_loud stage) }
+    ensures ranges { IsQuote result }
 {
     let bid = price_at(bar, stage);
     let ask = ask(bid, bar.spread, digits);
@@ -164,7 +169,8 @@ impl<'a> Quotes<'a> {
 
     /// The next quote; `None` exactly after the last.
     pub fn next(&mut self) -> Option<Quote>
-        ensures { MatchOption result ((self.old ≡ []) × (self.new ≡ [])) (λ quote. self.old ≡ quote ∷ self.new) }
+        ensures next { MatchOption result ((self.old ≡ []) × (self.new ≡ [])) (λ quote. self.old ≡ quote ∷ self.new) }
+        ensures ranges { IfSome result IsQuote }
     {
         let [bar, rest @ ..] = self.bars else {
             return None;

@@ -1,5 +1,5 @@
-use Rattle.std.proofs.Common.{◌≡◌, ℕ, List, [], ◌∷◌, None, true, false, true≢false, sym, ◌∙◌, ap}
-use Rattle.market_data.specs.BarsFile.{parts, nine}
+use Rattle.std.proofs.Common.{◌≡◌, [], ◌∷◌, true≢false, sym}
+use Rattle.market_data.specs.BarsFile.{parts}
 use Rattle.market_data.proofs.RowParts.{nine-more}
 use Rattle.market_data.proofs.rows.fields_of.Goals as goal
 
