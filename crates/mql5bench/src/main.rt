@@ -1,10 +1,9 @@
 //! The program: it makes the real files, the real sink and the allocator, and calls the library.
 #![tactic(auto)]
 
-use std::env;
-use std::io;
 use std::io::Write;
 use std::process::ExitCode;
+use std::{env, io};
 use tester_cli::{Status, fault_text, run_single};
 use tester_io::{DiskFiles, OutSink};
 

@@ -1,5 +1,5 @@
 -- A call of the machine, told by the source's meaning, and a pass that goes on.
-use Rattle.std.proofs.Common.{◌≡◌, ℕ, ℤ, pos, List, [], ◌∷◌, ◌++◌, refl, sym, ap, ◌∙◌, subst, append-nil, Bool, true, false, cond, ◌+◌, Option, Some, None, arith}
+use Rattle.std.proofs.Common.{◌≡◌, ℕ, ℤ, List, [], ◌∷◌, refl, sym, ap, ◌∙◌, subst, append-nil, Bool, true, false, cond, ◌+◌, Option, Some, None, arith}
 use Rattle.std.specs.Prelude.{All, nat_le}
 use Rattle.mql_mean.specs.declared.tree.Checked.{Checked}
 use Rattle.mql_mean.specs.declared.tree.Entry.{Entry}
@@ -24,10 +24,9 @@ use Rattle.tester_cli.specs.declared.result.Printed.{Printed}
 use Rattle.tester_cli.specs.declared.result.PassEnd.{PassEnd}
 use Rattle.tester_cli.specs.declared.result.PassResult.{PassResult}
 use Rattle.mql_mean.specs.Store.{opening}
-use Rattle.tester_cli.specs.Report.{shown_text}
 use Rattle.tester_cli.specs.Times.{IsReportTime}
 use Rattle.tester_cli.specs.Journal.{opening_state, TesterState, TesterStep, PrintStep, with_print, journal_bytes, line_bytes, printed_text, void_reply}
-use Rattle.tester_cli.specs.Pass.{Stage, stage, Takes, CallsTick, silent, loud, at_time, ends_here, PassesFrom, Passes}
+use Rattle.tester_cli.specs.Pass.{Stage, stage, Takes, loud, at_time, ends_here, PassesFrom, Passes}
 
 pub told : {H : Type 0} (may : H → HostCall → Answer → H → Type 0) (checked : Checked) (code : Code) (entry : Entry) (arg : ℤ) (store store' : Store) (n n' : ℕ) (h h' : H) (e : End) → Follows checked code → Ends may code entry arg store n h h' e store' n' → Told may checked entry arg store n h h' e store' n'
 told may checked code entry arg store store' n n' h h' e follows run = record {

@@ -1,13 +1,13 @@
 -- How the answers of a plan's parts make the answer of the whole.
-use Rattle.std.proofs.Common.{◌≡◌, ◌⊎◌, inl, inr, ℕ, ◌+◌, ◌-◌, ◌^◌, ◌<◌, ◌≤◌, min, Bool, true, false, List, [], length, Option, Some, None, refl, sym, subst, arith}
-use Rattle.std.specs.Prelude.{nat_lt, IsSomeAnd}
+use Rattle.std.proofs.Common.{◌≡◌, inl, inr, ℕ, ◌<◌, ◌≤◌, List, [], length, Option, Some, None, refl, sym, subst, arith}
+use Rattle.std.specs.Prelude.{IsSomeAnd}
 use Rattle.std.specs.Bool.{MatchBool}
 use Rattle.std.proofs.lemmas.Bool.{lt-ltb, le-ltb}
-use Rattle.tester_io.specs.Outside.{Contents, WhereTold, Rose}
+use Rattle.tester_io.specs.Outside.{Contents, Rose}
 use Rattle.tester_cli.specs.declared.status.Status.{Status}
 use Rattle.tester_cli.specs.declared.status.Status.TheVariants.{Done, Usage, Source, Settings, Prices, CodeFile, Grid, Absent, ReadFault, WriteFault, TooLarge, OutOfMemory}
-use Rattle.tester_cli.specs.Answer.{Ending, Plan, Reads, Ends, AfterReading, Gives, Reaches, ReachesAfter, refusal}
-use Rattle.tester_cli.specs.Clauses.{ReadCounts, NoneFell, IsReading, ReadingRefused, Refuses, Refused, Never}
+use Rattle.tester_cli.specs.Answer.{Plan, Reads, AfterReading, Gives, Reaches, ReachesAfter, refusal}
+use Rattle.tester_cli.specs.Clauses.{ReadCounts, NoneFell, IsReading, ReadingRefused, Refused, Never}
 
 rose_later : (before mid now : ℕ) → before ≤ mid → Rose mid now → Rose before now
 rose_later before mid now le rose = omega arith

@@ -1,12 +1,12 @@
 -- The quotes of bars: how many, and the times of the loud ones.
-use Rattle.std.proofs.Common.{◌≡◌, ℕ, ℤ, pos, ◌+◌, ◌*◌, ◌+ℤ◌, ◌*ℤ◌, ◌≤ℤ◌, ◌<ℤ◌, Bool, true, false, List, [], ◌∷◌, length, refl, sym, ap, ◌∙◌, arith}
+use Rattle.std.proofs.Common.{◌≡◌, pos, ◌*◌, ◌+ℤ◌, ◌*ℤ◌, true, List, [], ◌∷◌, length, refl, arith}
 use Rattle.std.specs.Prelude.{All}
 use Rattle.std.proofs.lemmas.Int.{ints}
 use Rattle.std.proofs.lemmas.List.Elements.{All-head, All-tail}
 use Rattle.market_data.specs.declared.bar.Bar.{Bar}
 use Rattle.market_data.specs.declared.quote.Quote.{Quote}
 use Rattle.market_data.specs.BarsFile.{IsBar}
-use Rattle.market_data.specs.Quotes.{opening_quotes, quotes_of}
+use Rattle.market_data.specs.Quotes.{opening_quotes}
 use Rattle.tester_cli.specs.Times.{IsReportTime}
 
 -- each loud quote has a time that a report may have

@@ -1,17 +1,17 @@
 -- The plan of a command line has one status over given contents, so where it has Done nothing is refused.
-use Rattle.std.proofs.Common.{◌≡◌, ℕ, Bool, true, false, List, [], ◌∷◌, length, Option, Some, None, refl, sym, subst, ◌∙◌}
+use Rattle.std.proofs.Common.{◌≡◌, ℕ, Bool, true, false, List, [], ◌∷◌, length, Option, Some, None, sym, subst, ◌∙◌}
 use Rattle.std.specs.Prelude.{nat_lt}
 use Rattle.std.specs.Bool.{MatchBool}
 use Rattle.std.specs.Str.{bytes_eq}
 use Rattle.std.specs.Prelude.{codes}
-use Rattle.tester_io.specs.Outside.{Contents, WhereTold, Rose}
+use Rattle.tester_io.specs.Outside.{Contents, Rose}
 use Rattle.mql_mean.specs.declared.tree.Checked.{Checked}
 use Rattle.market_data.specs.declared.bar.Bar.{Bar}
 use Rattle.mql_source.specs.Source.{checked_of}
 use Rattle.market_data.specs.BarsFile.{bars_of}
 use Rattle.tester_cli.specs.declared.status.Status.{Status}
 use Rattle.tester_cli.specs.declared.status.Status.TheVariants.{Done, Usage, Source, Settings, Prices, CodeFile, Grid, Absent, ReadFault, WriteFault, TooLarge, OutOfMemory}
-use Rattle.tester_cli.specs.Answer.{Ending, Plan, Reads, Ends, AfterReading, Gives, refusal}
+use Rattle.tester_cli.specs.Answer.{Plan, Reads, Ends, AfterReading, Gives, refusal}
 use Rattle.tester_cli.specs.Clauses.{ReadCounts, NoneFell, IsReading, ReadingRefused, Refused, Never, UsageRefused, HasDone, IsDoneOrMemory}
 use Rattle.tester_cli.proofs.PlanLemmas.{refused_here, refused_later}
 use Rattle.tester_cli.specs.Commands.{refuses, with_source, with_bars, reports, quick_bars, quick_plan, quick_names, chosen, plan_of, source_limit, price_limit}

@@ -1,5 +1,5 @@
 -- What the statuses of a run say. Own.
-use Rattle.std.specs.Prelude.{◌≡◌, ◌⊎◌, ◌≤◌, ◌<◌, length, IsSomeAnd, ℕ, List, [], ◌++◌, take, Option, Some, None}
+use Rattle.std.specs.Prelude.{◌≡◌, ◌≤◌, ◌<◌, length, IsSomeAnd, ℕ, List, [], ◌++◌, take, Option, Some, None}
 use Rattle.tester_io.specs.Outside.{Contents, WhereTold, Rose}
 use Rattle.tester_cli.specs.declared.status.Status.{Status}
 use Rattle.tester_cli.specs.declared.status.Status.TheVariants.{Done, Usage, Source, Settings, Prices, CodeFile, Grid, Absent, ReadFault, WriteFault, TooLarge, OutOfMemory}

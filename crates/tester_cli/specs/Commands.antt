@@ -1,12 +1,11 @@
 -- What each command does. Own.
-use Rattle.std.specs.Prelude.{◌≡◌, ℕ, Bool, true, false, List, [], ◌∷◌, Option, Some, None, map, codes}
+use Rattle.std.specs.Prelude.{◌≡◌, ℕ, Bool, true, false, List, [], ◌∷◌, Option, Some, None, codes}
 use Rattle.std.specs.Str.{bytes_eq}
 use Rattle.mql_mean.specs.declared.tree.Checked.{Checked}
 use Rattle.mql_source.specs.Source.{checked_of}
 use Rattle.market_data.specs.declared.bar.Bar.{Bar}
 use Rattle.market_data.specs.BarsFile.{bars_of}
 use Rattle.market_data.specs.Quotes.{opening_quotes}
-use Rattle.tester_io.specs.Outside.{Contents}
 use Rattle.tester_cli.specs.declared.result.PassResult.{PassResult}
 use Rattle.tester_cli.specs.declared.status.Status.{Status}
 use Rattle.tester_cli.specs.declared.status.Status.TheVariants.{Done, Usage, Source, Prices}

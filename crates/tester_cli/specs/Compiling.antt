@@ -1,5 +1,5 @@
 -- From the texts of a source to a program. Own, with MQL5 Reference, Language Basics.
-use Rattle.std.specs.Prelude.{◌≡◌, ℕ, List, [], ◌∷◌, Option, Some, None}
+use Rattle.std.specs.Prelude.{◌≡◌, ℕ, List, [], ◌∷◌, Some, None}
 use Rattle.mql_mean.specs.declared.tree.Checked.{Checked}
 use Rattle.mql_source.specs.Source.{checked_of}
 use Rattle.stack_vm.specs.declared.code.Code.{Code}

@@ -1,6 +1,6 @@
 -- A pass of the tester without an account: the quotes in turn, and OnTick at each loud one (MetaTrader 5 Help, Strategy
 -- Testing; MQL5 Reference, Event Handling, OnTick).
-use Rattle.std.specs.Prelude.{◌≡◌, ℕ, ℤ, pos, ◌+◌, Bool, true, false, List, [], ◌∷◌, Option, Some, None}
+use Rattle.std.specs.Prelude.{◌≡◌, ℕ, ℤ, pos, ◌+◌, List, [], ◌∷◌, Option, Some, None}
 use Rattle.std.specs.Bool.{MatchBool}
 use Rattle.mql_mean.specs.declared.tree.Checked.{Checked}
 use Rattle.mql_mean.specs.declared.tree.Entry.TheVariants.{Tick}

@@ -1,5 +1,5 @@
-use Rattle.std.proofs.Common.{◌≡◌, ℕ, Bool, true, false, cond, List, length, None, refl, ap, ◌∙◌, subst}
-use Rattle.std.specs.Prelude.{◌&&◌, nat_le, MatchOption}
+use Rattle.std.proofs.Common.{◌≡◌, ℕ, Bool, true, false, List, length, None, refl}
+use Rattle.std.specs.Prelude.{◌&&◌, nat_le}
 use Rattle.mql_source.specs.Bytes.{all_ascii}
 use Rattle.mql_source.specs.Source.{checked_of}
 use Rattle.tester_cli.proofs.compiler.program_of.Goals as goal

@@ -1,4 +1,4 @@
-use Rattle.std.proofs.Common.{◌≡◌, ◌+◌, length, refl, sym, ap, subst, arith, cond}
+use Rattle.std.proofs.Common.{◌+◌, length, refl, sym, ap, subst, arith, cond}
 use Rattle.market_data.specs.Quotes.{opening_quotes}
 use Rattle.tester_cli.specs.Pass.{stage}
 use Rattle.tester_cli.proofs.QuoteLemmas.{AreLoudTimes, loud_times, quote_count}
@@ -25,6 +25,6 @@ returns-in-Some-end-clause-passes c =
     let next = stage c.take.new.machine c.take.new.steps c.take.new.world (c.loop-quote.quotes + 1) (cond quote.loud (c.loop-quote.loud + 1) c.loop-quote.loud) in
     λ checked follows.
     c.loop-quote.invariant.goes_on checked follows _
-    (ends_now checked quote c.loop-quote.stream c.next.new.self here next c.in-Some-end.end c.in_ok-end.end _ c.in-Some.ensures c.in-Some-end.is
+    (ends_now checked quote c.loop-quote.stream c.next.new.self here next c.in-Some-end.end c.in_ok-end.end _ c.in-Some.ensures.next c.in-Some-end.is
     (c.in_ok-end.ensures.took checked follows c.loop-quote.quotes c.loop-quote.loud)
     (rw (c.into_prints.ensures, c.counted-quotes.ensures, c.counted-loud.ensures) refl))

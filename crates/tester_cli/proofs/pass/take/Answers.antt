@@ -1,4 +1,4 @@
-use Rattle.std.proofs.Common.{◌≡◌, false, sym, ◌∙◌, FitsSigned, w64, rules}
+use Rattle.std.proofs.Common.{sym, ◌∙◌, FitsSigned, w64, rules}
 use Rattle.std.proofs.lemmas.Int.{to_z-of_z}
 use Rattle.mql_mean.specs.declared.tree.Entry.TheVariants.{Tick}
 use Rattle.tester_cli.proofs.PassLemmas.{takes_alone}

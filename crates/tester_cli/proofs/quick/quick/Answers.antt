@@ -1,4 +1,3 @@
-use Rattle.std.proofs.Common.{sym}
 use Rattle.std.proofs.lemmas.Result.{err_from_is_err_and, IfErr-weaker}
 use Rattle.tester_cli.specs.Clauses.{counts}
 use Rattle.tester_cli.proofs.RunLemmas.{source_refused, later_refused}

@@ -1,4 +1,4 @@
-use Rattle.std.proofs.Common.{◌≡◌, ◌++◌, take, Some, Err, inr, map, ap, ◌∙◌}
+use Rattle.std.proofs.Common.{◌++◌, take, Some, Err, inr, map, ap, ◌∙◌}
 use Rattle.std.specs.String.{string_bytes}
 use Rattle.tester_cli.specs.Commands.{plan_of}
 use Rattle.tester_cli.specs.Clauses.{counts}
