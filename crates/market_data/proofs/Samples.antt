@@ -1,7 +1,7 @@
 -- The definitions at a worked row.
 use Rattle.std.proofs.Common.{◌≡◌, Some, None, refl}
 use Rattle.std.specs.Prelude.{codes}
-use Rattle.market_data.specs.BarsFile.{whole, whole_of, price, prices, Prices, row, clock_of_parts, parts, ended}
+use Rattle.market_data.specs.BarsFile.{whole, whole_of, price, time_of}
 
 price_one : price (codes "1.1005") ≡ Some 110050000
 unfolding whole
@@ -19,6 +19,6 @@ price_bare : price (codes "1.") ≡ None
 unfolding whole
 price_bare = refl
 
-clock : clock_of_parts (parts 58 (codes "10:01:00")) ≡ Some 36060
-unfolding whole whole_of
+clock : time_of (codes "10:01:00") ≡ Some 36060
+unfolding whole_of whole
 clock = refl

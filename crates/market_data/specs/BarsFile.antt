@@ -1,11 +1,11 @@
 -- The form of a bars file, and the bars that it says (MetaTrader 5 Help, Bars: export of history).
-use Rattle.std.specs.Prelude.{ℕ, ◌+◌, ◌-◌, ◌*◌, ◌^◌, Bool, true, false, not, ◌&&◌, ◌==◌, nat_le, nat_lt, if◌then◌else◌, List, [], ◌∷◌, length, Option, Some, None, option_map, ℤ, pos, ◌+ℤ◌, ◌*ℤ◌, int_lt, ◌≤◌, ◌<ℤ◌, ◌≤ℤ◌, negsuc, codes}
+use Rattle.std.specs.Prelude.{ℕ, ◌+◌, ◌-◌, ◌*◌, ◌^◌, Bool, true, ◌&&◌, ◌==◌, nat_le, nat_lt, if◌then◌else◌, List, [], ◌∷◌, length, Option, Some, None, option_map, ℤ, pos, ◌+ℤ◌, ◌*ℤ◌, int_lt, ◌≤◌, ◌<ℤ◌, ◌≤ℤ◌, codes, ◌≡◌}
 use Rattle.std.specs.Option.{option_and_then}
 use Rattle.std.specs.List.{slice_split}
 use Rattle.std.specs.Str.{bytes_eq}
 use Rattle.jiff_core.specs.Calendar.{days_in_month, days_from_civil}
-use Rattle.std.specs.Borrow.{Bor}
 use Rattle.market_data.specs.declared.bar.Bar.{Bar}
+use Rattle.market_data.specs.declared.rows.Prices.{Prices}
 
 -- f of the value, where there is one
 abbrev pub given : {A B : Type 0} → Option A → (A → Option B) → Option B
@@ -18,11 +18,6 @@ provided test x = if test then Some x else None
 -- the parts of a text round each separator
 abbrev pub parts : ℕ → List ℕ → List (List ℕ)
 parts separator text = slice_split (λ b. b == separator) text
-
--- the parts of what is left of a text, if something is
-abbrev pub parts_left : ℕ → Option (Bor (List ℕ)) → List (List ℕ)
-parts_left separator None = []
-parts_left separator (Some text) = parts separator text.now
 
 -- a decimal digit
 abbrev pub is_digit : ℕ → Bool
@@ -54,12 +49,18 @@ greatest_price = 10 ^ 15
 abbrev pub in_units : ℕ → ℕ → ℕ → ℕ
 in_units whole_part decimals places = whole_part * 10 ^ 8 + decimals * 10 ^ (8 - places)
 
+abbrev pub whole_price : List ℕ → Option ℕ
+whole_price whole_part = option_map (λ n. n * 10 ^ 8) (whole 10000000 whole_part)
+
+abbrev pub decimal_price : List ℕ → List ℕ → Option ℕ
+decimal_price whole_part decimals =
+    given (whole 10000000 whole_part) (λ n. given (whole 99999999 decimals) (λ k. provided (nat_le (length decimals) 8) (in_units n k (length decimals))))
+
 abbrev pub price_of_parts : List (List ℕ) → Option ℕ
 price_of_parts [] = None
-price_of_parts (w ∷ []) = option_map (λ n. n * 10 ^ 8) (whole 10000000 w)
-price_of_parts (w ∷ d ∷ []) =
-    given (whole 10000000 w) (λ n. if nat_le (length d) 8 then option_map (λ k. in_units n k (length d)) (whole 99999999 d) else None)
-price_of_parts (w ∷ d ∷ x ∷ more) = None
+price_of_parts (whole_part ∷ []) = whole_price whole_part
+price_of_parts (whole_part ∷ decimals ∷ []) = decimal_price whole_part decimals
+price_of_parts (whole_part ∷ decimals ∷ more ∷ most) = None
 
 abbrev pub price : List ℕ → Option ℕ
 price text = given (price_of_parts (parts 46 text)) (λ units. provided (nat_lt 0 units && nat_le units greatest_price) units)
@@ -68,43 +69,44 @@ price text = given (price_of_parts (parts 46 text)) (λ units. provided (nat_lt 
 abbrev pub is_day : ℕ → ℕ → ℕ → Bool
 is_day year month day = nat_le 1970 year && nat_le 1 month && nat_le 1 day && nat_le day (days_in_month (pos year) month)
 
--- the day number of a date such as 2020.01.02: days since 1970.01.01
-abbrev pub day_of_parts : List (List ℕ) → Option ℤ
-day_of_parts (y ∷ m ∷ d ∷ []) =
-    given (whole_of 4 2999 y) (λ year. given (whole_of 2 12 m) (λ month. given (whole_of 2 31 d) (λ day.
-    provided (is_day year month day) (days_from_civil (pos year) month day))))
-day_of_parts other = None
+-- three parts, and no more
+abbrev pub three : List (List ℕ) → Option (List ℕ × List ℕ × List ℕ)
+three (first ∷ second ∷ third ∷ []) = Some (first, second, third)
+three other = None
+
+-- the day number of a day: days since 1970.01.01
+abbrev pub day_number : ℕ → ℕ → ℕ → Option ℤ
+day_number year month day = provided (is_day year month day) (days_from_civil (pos year) month day)
+
+-- the day number of a date such as 2020.01.02
+abbrev pub day_of : List ℕ → List ℕ → List ℕ → Option ℤ
+day_of y m d = given (whole_of 4 2999 y) (λ year. given (whole_of 2 12 m) (λ month. given (whole_of 2 31 d) (λ day. day_number year month day)))
 
 -- the seconds since midnight of a time such as 10:00:00, whose seconds are 00
-abbrev pub clock_of_parts : List (List ℕ) → Option ℕ
-clock_of_parts (h ∷ m ∷ s ∷ []) =
-    given (whole_of 2 23 h) (λ hours. given (whole_of 2 59 m) (λ minutes. given (whole_of 2 0 s) (λ none.
-    Some (hours * 3600 + minutes * 60))))
-clock_of_parts other = None
+abbrev pub clock_of : List ℕ → List ℕ → List ℕ → Option ℕ
+clock_of h m s = given (whole_of 2 23 h) (λ hours. given (whole_of 2 59 m) (λ minutes. given (whole_of 2 0 s) (λ none. Some (hours * 3600 + minutes * 60))))
+
+abbrev pub date_of : List ℕ → Option ℤ
+date_of date = given (three (parts 46 date)) (λ p. day_of p.0 p.1 p.2)
+
+abbrev pub time_of : List ℕ → Option ℕ
+time_of time = given (three (parts 58 time)) (λ p. clock_of p.0 p.1 p.2)
 
 -- the seconds since 1970-01-01 00:00 of a date and a time
 abbrev pub moment : List ℕ → List ℕ → Option ℤ
-moment date time =
-    given (day_of_parts (parts 46 date)) (λ day. option_map (λ seconds. day *ℤ pos 86400 +ℤ pos seconds) (clock_of_parts (parts 58 time)))
-
--- the prices of a bar, in units of 10^-8
-pub record Prices : Type 0 where
-  pub opening : ℕ
-  pub high : ℕ
-  pub low : ℕ
-  pub closing : ℕ
+moment date time = given (date_of date) (λ day. given (time_of time) (λ seconds. Some (day *ℤ pos 86400 +ℤ pos seconds)))
 
 -- no high below and no low above another price of the bar
 abbrev pub is_range : ℕ → ℕ → ℕ → ℕ → Bool
 is_range o h l c = nat_le o h && nat_le c h && nat_le l o && nat_le l c && nat_le l h
 
-abbrev pub prices : List ℕ → List ℕ → List ℕ → List ℕ → Option Prices
-prices o h l c =
+abbrev pub prices_of : List ℕ → List ℕ → List ℕ → List ℕ → Option Prices
+prices_of o h l c =
     given (price o) (λ opens. given (price h) (λ highest. given (price l) (λ lowest. given (price c) (λ closes.
     provided (is_range opens highest lowest closes) (record { opening = opens; high = highest; low = lowest; closing = closes })))))
 
 -- the fields of a row, in the order of the header
-pub record Fields : Type 0 where
+pub record RowText : Type 0 where
   pub date : List ℕ
   pub time : List ℕ
   pub opening : List ℕ
@@ -115,15 +117,16 @@ pub record Fields : Type 0 where
   pub volume : List ℕ
   pub spread : List ℕ
 
-abbrev pub nine : List (List ℕ) → Option Fields
+-- nine fields, and no more
+abbrev pub nine : List (List ℕ) → Option RowText
 nine (d ∷ t ∷ o ∷ h ∷ l ∷ c ∷ n ∷ v ∷ s ∷ []) =
     Some (record { date = d; time = t; opening = o; high = h; low = l; closing = c; tick_volume = n; volume = v; spread = s })
 nine other = None
 
 -- the bar that the fields say: volumes fit 64 bits, and the spread is at most 1,000,000 points
-abbrev pub bar_of : Fields → Option Bar
+abbrev pub bar_of : RowText → Option Bar
 bar_of f =
-    given (moment f.date f.time) (λ opens. given (prices f.opening f.high f.low f.closing) (λ p.
+    given (moment f.date f.time) (λ opens. given (prices_of f.opening f.high f.low f.closing) (λ p.
     given (whole (2 ^ 64 - 1) f.tick_volume) (λ ticks. given (whole (2 ^ 64 - 1) f.volume) (λ traded. given (whole 1000000 f.spread) (λ points.
     Some (record { time = opens; o = pos p.opening; h = pos p.high; l = pos p.low; c = pos p.closing; tick_volume = ticks; spread = points; volume = traded }))))))
 
@@ -142,13 +145,22 @@ abbrev pub rows : List (List ℕ) → Option (List Bar)
 rows [] = Some []
 rows (line ∷ lines) = if length line == 0 then rows lines else given (row line) (λ bar. option_map (λ bars. bar ∷ bars) (rows lines))
 
+-- the bars of the parts round each LF
+abbrev pub bars_in : List (List ℕ) → Option (List Bar)
+bars_in parts = given (ended parts) rows
+
 -- the times of bars rise strictly
 abbrev pub is_rising : List Bar → Bool
 is_rising [] = true
 is_rising (bar ∷ []) = true
 is_rising (bar ∷ next ∷ more) = int_lt bar.time next.time && is_rising (next ∷ more)
 
--- bars whose times rise, at most 4,000,000
+-- the bars of a file: their times rise, and there are at most 4,000,000
+pub record IsInOrder (bars : List Bar) : Type 0 where
+  pub rising : is_rising bars ≡ true
+  pub few : length bars ≤ 4000000
+
+-- bars that are in order
 abbrev pub in_order : List Bar → Option (List Bar)
 in_order bars = provided (is_rising bars && nat_le (length bars) 4000000) bars
 
@@ -169,10 +181,26 @@ pub record IsPrice (units : ℤ) : Type 0 where
   pub above : pos 0 <ℤ units
   pub most : units ≤ℤ pos greatest_price
 
+-- four prices
+pub record ArePrices (p : Prices) : Type 0 where
+  pub opening : IsPrice (pos p.opening)
+  pub high : IsPrice (pos p.high)
+  pub low : IsPrice (pos p.low)
+  pub closing : IsPrice (pos p.closing)
+
+-- the day number of a day from 1970.01.01 to 2999.12.31
+pub record IsDayNumber (day : ℤ) : Type 0 where
+  pub from : pos 0 ≤ℤ day
+  pub to : day ≤ℤ pos 376199
+
+-- a moment from 1970.01.01 00:00:00 to 2999.12.31 23:59:00, in seconds since the first
+pub record IsMoment (seconds : ℤ) : Type 0 where
+  pub from : pos 0 ≤ℤ seconds
+  pub to : seconds ≤ℤ pos 32503679940
+
 -- the ranges that a bar of a file keeps
 pub record IsBar (bar : Bar) : Type 0 where
-  pub time_from : negsuc (10 ^ 12) ≤ℤ bar.time
-  pub time_to : bar.time ≤ℤ pos (10 ^ 12)
+  pub time : IsMoment bar.time
   pub opening : IsPrice bar.o
   pub high : IsPrice bar.h
   pub low : IsPrice bar.l

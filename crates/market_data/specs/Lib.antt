@@ -1,2 +1,4 @@
 pub mod BarsFile
 pub mod Quotes
+pub mod Stages
+pub mod Views

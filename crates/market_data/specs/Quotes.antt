@@ -1,5 +1,6 @@
 -- The quotes that bars give at opening prices (MetaTrader 5 Help, Strategy Tester: Open prices only; the times are our own).
-use Rattle.std.specs.Prelude.{ℕ, ◌-◌, ◌*◌, ◌^◌, Bool, true, false, List, [], ◌∷◌, ◌++◌, if◌then◌else◌, ℤ, pos, ◌+ℤ◌, ◌*ℤ◌, int_le}
+use Rattle.std.specs.Prelude.{ℕ, ◌-◌, ◌*◌, ◌^◌, Bool, true, false, List, [], ◌∷◌, ◌++◌, if◌then◌else◌, ℤ, pos, ◌+ℤ◌, ◌*ℤ◌, int_le, ◌≤ℤ◌}
+use Rattle.market_data.specs.BarsFile.{IsPrice}
 use Rattle.market_data.specs.declared.bar.Bar.{Bar}
 use Rattle.market_data.specs.declared.quote.Quote.{Quote}
 
@@ -36,3 +37,12 @@ quotes_of digits bar =
 unfoldable pub opening_quotes : ℕ → List Bar → List Quote
 opening_quotes digits [] = []
 opening_quotes digits (bar ∷ bars) = quotes_of digits bar ++ opening_quotes digits bars
+
+-- the ranges of a quote that a bar of a file gives: a time of the years 1970 to 2999, a price as Bid, and Ask at most
+-- 1,000,000 points above it
+pub record IsQuote (q : Quote) : Type 0 where
+  pub time_from : pos 0 ≤ℤ q.time_ms
+  pub time_to : q.time_ms ≤ℤ pos 32503679999000
+  pub bid : IsPrice q.bid
+  pub ask_from : q.bid ≤ℤ q.ask
+  pub ask_to : q.ask ≤ℤ (q.bid +ℤ pos (10 ^ 14))

@@ -1,6 +1,8 @@
 //! Why the rows of a price file could not be read.
 
 ghost use Rattle.std.specs.Prelude.{◌≡◌};
+ghost use Rattle.std.specs.Fmt.{WritesOnOk};
+ghost use Rattle.market_data.specs.Views.{fault_text};
 
 use fx8::OutOfMemory;
 use std::fmt;
@@ -15,7 +17,9 @@ pub enum RowFault {
 }
 
 impl fmt::Display for RowFault {
-    fn fmt<W: fmt::Write>(&self, f: &mut fmt::Formatter<W>) -> fmt::Result {
+    fn fmt<W: fmt::Write>(&self, f: &mut fmt::Formatter<W>) -> fmt::Result
+        ensures { WritesOnOk W.write_str_gives f.old result (fault_text self.now) f.new }
+    {
         match self {
             RowFault::Rule { row, rule } => write!(f, "row {row} breaks rule {rule}"),
             RowFault::OutOfMemory => write!(f, "out of memory"),

@@ -26,6 +26,16 @@ pub enum Value {
 /// Values in order.
 pub type ValueList = ItemList<Value>;
 
+// The kind `int`.
+fn is_int(kind: IntKind) -> bool
+    ensures { result ≡ is_int kind }
+{
+    match kind {
+        IntKind::Int => true,
+        _ => false,
+    }
+}
+
 impl Value {
     /// Another value that is the same.
     #[cycle(copy)]
@@ -59,7 +69,7 @@ impl Value {
         match self {
             Value::Num(kind, _) => is_int(*kind),
             Value::Str(_) => true,
-            _ => false,
+            Value::Dbl(_) | Value::Ptr(_) | Value::Arr(_) | Value::Rec(_) => false,
         }
     }
 }
@@ -73,16 +83,6 @@ fn copies(alloc: Global, values: &[Value]) -> Result<ValueList, OutOfMemory>
         copies.push(value.copy(alloc)?)?;
     }
     Ok(copies)
-}
-
-/// Whether it is the kind `int`.
-fn is_int(kind: IntKind) -> bool
-    ensures { result ≡ is_int kind }
-{
-    match kind {
-        IntKind::Int => true,
-        _ => false,
-    }
 }
 
 /// Whether each of the values can be printed.

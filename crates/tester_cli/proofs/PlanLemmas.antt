@@ -1,13 +1,13 @@
 -- How the answers of a plan's parts make the answer of the whole.
-use Rattle.std.proofs.Common.{◌≡◌, ◌⊎◌, inl, inr, ℕ, ◌+◌, ◌-◌, ◌^◌, ◌<◌, ◌≤◌, min, Bool, true, false, List, [], length, Option, Some, None, refl, sym, subst, arith}
-use Rattle.std.specs.Prelude.{nat_lt, IsSomeAnd}
+use Rattle.std.proofs.Common.{◌≡◌, inl, inr, ℕ, ◌<◌, ◌≤◌, List, [], length, Option, Some, None, refl, sym, subst, arith}
+use Rattle.std.specs.Prelude.{IsSomeAnd}
 use Rattle.std.specs.Bool.{MatchBool}
 use Rattle.std.proofs.lemmas.Bool.{lt-ltb, le-ltb}
-use Rattle.tester_io.specs.Outside.{Contents, WhereTold, Rose}
+use Rattle.tester_io.specs.Outside.{Contents, Rose}
 use Rattle.tester_cli.specs.declared.status.Status.{Status}
 use Rattle.tester_cli.specs.declared.status.Status.TheVariants.{Done, Usage, Source, Settings, Prices, CodeFile, Grid, Absent, ReadFault, WriteFault, TooLarge, OutOfMemory}
-use Rattle.tester_cli.specs.Answer.{Ending, Plan, Reads, Ends, AfterReading, Gives, Reaches, ReachesAfter, refusal}
-use Rattle.tester_cli.specs.Clauses.{ReadCounts, NoneFell, IsReading, ReadingRefused, Refuses, Refused, Never}
+use Rattle.tester_cli.specs.Answer.{Plan, Reads, AfterReading, Gives, Reaches, ReachesAfter, refusal}
+use Rattle.tester_cli.specs.Clauses.{ReadCounts, NoneFell, IsReading, ReadingRefused, Refused, Never}
 
 rose_later : (before mid now : ℕ) → before ≤ mid → Rose mid now → Rose before now
 rose_later before mid now le rose = omega arith
@@ -24,12 +24,12 @@ module _ (name : List ℕ) (limit : ℕ) (next : List ℕ → Plan) (held : Cont
     pub given_later : (s : Status) (text : List ℕ) (after : Contents) → Gives (next bytes) held s text after → Gives (Reads name limit next) held s text after
     given_later s text after g =
         subst (λ o. AfterReading name limit (λ bytes. Gives (next bytes)) o held s text after) (sym holds)
-          (subst (λ b. MatchBool b (refusal (TooLarge name) held s text after) (Gives (next bytes) held s text after)) (sym (le-ltb limit (length bytes) within)) g)
+        (subst (λ b. MatchBool b (refusal (TooLarge name) held s text after) (Gives (next bytes) held s text after)) (sym (le-ltb limit (length bytes) within)) g)
 
     reached_later : (wanted : List ℕ) → Reaches (next bytes) wanted held → Reaches (Reads name limit next) wanted held
     reached_later wanted r =
         inr (subst (λ o. ReachesAfter limit (λ bytes. Reaches (next bytes) wanted held) o) (sym holds)
-          (subst (λ b. MatchBool b ⊥ (Reaches (next bytes) wanted held)) (sym (le-ltb limit (length bytes) within)) r))
+        (subst (λ b. MatchBool b ⊥ (Reaches (next bytes) wanted held)) (sym (le-ltb limit (length bytes) within)) r))
 
 module _ (usage : ℕ → Type 0) (name : List ℕ) (limit : ℕ) (next : List ℕ → Plan) (told : Option Contents) where
   pub refused_here : (before now : ReadCounts) (status : Status) → ReadingRefused name limit told before now status → Refused usage (Reads name limit next) told before now status

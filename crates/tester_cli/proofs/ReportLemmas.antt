@@ -23,8 +23,8 @@ pub print_line : {E : Type 0} (r : Result (Unit {0}) E) (printed : Printed) (old
 print_line (Ok u) printed old d1 d2 d3 d4 time e f g =
     let line : List ℕ = time.piece ++ 32 ∷ shown_text printed.text in
     let e3 : d3 ≡ old ++ line =
-        f ∙ ap (λ d. d ++ shown_text printed.text) (e ∙ ap (λ d. d ++ 32 ∷ []) time.grew)
-        ∙ append_assoc (old ++ time.piece) (32 ∷ []) (shown_text printed.text) ∙ append_assoc old time.piece (32 ∷ shown_text printed.text) in
+    f ∙ ap (λ d. d ++ shown_text printed.text) (e ∙ ap (λ d. d ++ 32 ∷ []) time.grew)
+    ∙ append_assoc (old ++ time.piece) (32 ∷ []) (shown_text printed.text) ∙ append_assoc old time.piece (32 ∷ shown_text printed.text) in
     record {
       piece = line ++ 10 ∷ [];
       is = record { time = time.piece; is_time = time.is; is = refl };

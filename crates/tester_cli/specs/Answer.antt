@@ -1,9 +1,9 @@
 -- The answer of a run: what a command does, as readings in turn and then an end. Own.
-use Rattle.std.specs.Prelude.{◌≡◌, ◌⊎◌, ℕ, Bool, true, false, nat_lt, List, [], ◌∷◌, ◌++◌, length, take, Option, Some, None}
+use Rattle.std.specs.Prelude.{◌≡◌, ◌⊎◌, ℕ, nat_lt, List, [], length, Option, Some, None}
 use Rattle.std.specs.Bool.{MatchBool}
-use Rattle.tester_io.specs.Outside.{Contents, WhereTold, Rose}
+use Rattle.tester_io.specs.Outside.{Contents}
 use Rattle.tester_cli.specs.declared.status.Status.{Status}
-use Rattle.tester_cli.specs.declared.status.Status.TheVariants.{Done, Usage, Source, Settings, Prices, CodeFile, Grid, Absent, ReadFault, WriteFault, TooLarge, OutOfMemory}
+use Rattle.tester_cli.specs.declared.status.Status.TheVariants.{Absent, TooLarge}
 
 -- how a run may end that finds these contents: its status, what the sink gains, and the contents after it
 abbrev pub Ending : Type 1

@@ -1,10 +1,13 @@
 -- What the statuses of a run say. Own.
-use Rattle.std.specs.Prelude.{◌≡◌, ◌⊎◌, ◌≤◌, ◌<◌, length, IsSomeAnd, ℕ, List, [], ◌++◌, take, Option, Some, None}
+use Rattle.std.specs.Prelude.{◌≡◌, ◌≤◌, ◌<◌, length, IsSomeAnd, ℕ, List, [], ◌++◌, take, Option, Some, None}
 use Rattle.tester_io.specs.Outside.{Contents, WhereTold, Rose}
 use Rattle.tester_cli.specs.declared.status.Status.{Status}
 use Rattle.tester_cli.specs.declared.status.Status.TheVariants.{Done, Usage, Source, Settings, Prices, CodeFile, Grid, Absent, ReadFault, WriteFault, TooLarge, OutOfMemory}
 use Rattle.tester_io.specs.declared.fault.FileFault.{FileFault}
 use Rattle.tester_io.specs.declared.fault.FileFault.TheVariants as Fault
+use Rattle.mql_source.specs.Source.{checked_of}
+use Rattle.market_data.specs.BarsFile.{bars_of}
+use Rattle.tester_cli.specs.Compiling.{unbuilt}
 use Rattle.tester_cli.specs.Answer.{Plan, Gives, Reaches}
 
 -- the counts of the faults of reading
@@ -73,3 +76,62 @@ FaultStatus name Fault.Absent (Absent which) = which ≡ name
 FaultStatus name Fault.Failed (ReadFault which) = which ≡ name
 FaultStatus name Fault.TooLarge (TooLarge which) = which ≡ name
 FaultStatus name fault status = ⊥
+
+-- at a judgement, which is any of Usage to Grid
+abbrev pub AtJudgement : Status → Type 0 → Type 0
+AtJudgement (Usage rule) P = P
+AtJudgement (Source fault) P = P
+AtJudgement (Settings rule key) P = P
+AtJudgement (Prices file row rule) P = P
+AtJudgement (CodeFile rule place) P = P
+AtJudgement (Grid rule input) P = P
+AtJudgement _ P = Unit {0}
+
+-- at a file that was not read: Absent, ReadFault or TooLarge
+abbrev pub AtUnread : Status → Type 0 → Type 0
+AtUnread (Absent name) P = P
+AtUnread (ReadFault name) P = P
+AtUnread (TooLarge name) P = P
+AtUnread _ P = Unit {0}
+
+-- the sink gained a text that the plan has with Done, and the files are as the plan has them with it
+pub record WroteWhole (plan : Plan) (held : Contents) (before : List ℕ) (now : Option (List ℕ)) (files : Option Contents) : Type 0 where
+  pub text : List ℕ
+  pub after : Contents
+  pub gives : Gives plan held Done text after
+  pub grew : now ≡ Some (before ++ text)
+  pub kept : files ≡ Some after
+
+-- the sink gained a beginning of a text that the plan has with Done
+pub record WrotePart (plan : Plan) (held : Contents) (before : List ℕ) (now : Option (List ℕ)) : Type 0 where
+  pub text : List ℕ
+  pub after : Contents
+  pub gives : Gives plan held Done text after
+  pub part : ℕ
+  pub grew : now ≡ Some (before ++ take part text)
+
+-- the sink gained nothing
+abbrev pub WroteNothing : List ℕ → Option (List ℕ) → Type 0
+WroteNothing before now = now ≡ Some before
+
+-- all was done, or memory was wanting
+abbrev pub IsDoneOrMemory : Status → Type 0
+IsDoneOrMemory Done = Unit {0}
+IsDoneOrMemory OutOfMemory = Unit {0}
+IsDoneOrMemory _ = ⊥
+
+-- the plan has Done over these contents
+abbrev pub HasDone : Plan → Contents → Type 0
+HasDone plan held = (text : List ℕ) × (after : Contents) × Gives plan held Done text after
+
+-- the status that refuses a source, which is not of the form that is built so far
+abbrev pub SourceStatus : List ℕ → List ℕ → Status → Type 0
+SourceStatus name bytes (Source fault) = (checked_of bytes ≡ None) × (fault ≡ unbuilt name)
+SourceStatus name bytes OutOfMemory = Unit {0}
+SourceStatus name bytes _ = ⊥
+
+-- the status that refuses bars, which are not of the form that is read so far
+abbrev pub BarsStatus : List ℕ → List ℕ → Status → Type 0
+BarsStatus name bytes (Prices file row rule) = (bars_of bytes ≡ None) × (file ≡ name) × (row ≡ 0) × (rule ≡ 10)
+BarsStatus name bytes OutOfMemory = Unit {0}
+BarsStatus name bytes _ = ⊥

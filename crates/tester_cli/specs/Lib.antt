@@ -1,7 +1,10 @@
 pub mod Texts
 pub mod Answer
 pub mod Clauses
+pub mod Commands
+pub mod Compiling
 pub mod Journal
+pub mod Pass
 pub mod Report
 pub mod Times
 pub mod Pieces

@@ -25,7 +25,12 @@ fn fault_status(alloc: Global, name: &Text8, fault: FileFault) -> Status
 }
 
 /// Reads a file of at most `limit` bytes.
-pub fn read<F: Files>(alloc: Global, files: &mut F, name: &Text8, limit: u64) -> Result<Text8, Status>
+pub fn read<F: Files>(
+    alloc: Global,
+    files: &mut F,
+    name: &Text8,
+    limit: u64,
+) -> Result<Text8, Status>
     ensures same { F.told files.new ≡ F.told files.old }
     ensures none_fell { NoneFell (counts (F.absents files.old) (F.read_faults files.old) (F.oversizes files.old))
         (counts (F.absents files.new) (F.read_faults files.new) (F.oversizes files.new)) }

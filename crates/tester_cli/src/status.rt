@@ -104,7 +104,10 @@ fn push_status_fields(line: &mut Text8, status: &Status) -> Result<(), OutOfMemo
             push_number_field(line, u64::from(*rule))?;
             push_field(line, input.as_slice())
         }
-        Status::Absent(name) | Status::ReadFault(name) | Status::TooLarge(name) => push_field(line, name.as_slice()),
+        Status::Absent(name) | Status::ReadFault(name) | Status::TooLarge(name) => push_field(
+            line,
+            name.as_slice(),
+        ),
     }
 }
 
@@ -122,4 +125,15 @@ pub fn fault_text(alloc: Global, status: &Status) -> Result<Text8, OutOfMemory>
     push_status_fields(&mut line, status)?;
     line.push(b'\n')?;
     Ok(line)
+}
+
+impl From<OutOfMemory> for Status {
+    ghost use Rattle.std.specs.Prelude.{◌≡◌};
+    ghost use Rattle.tester_cli.specs.declared.status.Status.TheVariants as status;
+
+    ghost from_gives = { λ _ given. given ≡ status.OutOfMemory };
+
+    fn from(_error: OutOfMemory) -> Status {
+        Status::OutOfMemory
+    }
 }

@@ -84,7 +84,12 @@ pub fn push_time(text: &mut Text8, time_ms: i64) -> Result<(), OutOfMemory>
 {
     let time = time_ms as u64;
     let date = date_on(time / DAY);
-    push_date(text, u32::from(date.year.unsigned_abs()), u32::from(date.month), u32::from(date.day))?;
+    push_date(
+        text,
+        u32::from(date.year.unsigned_abs()),
+        u32::from(date.month),
+        u32::from(date.day),
+    )?;
     text.push(b' ')?;
     push_clock(text, (time % DAY) as u32)
 }

@@ -6,7 +6,7 @@ abbrev pub invariant-loop-place : goal.invariant-loop-place
 invariant-loop-place g l = record {
   within : l.place ≤ length l.text;
   written : WhereTold (g.S.Sink.told l.fn.out) (λ before. g.S.Sink.told l.out ≡ Some (before ++ take l.place l.text));
-  counted : g.S.Sink.write_faults l.fn.out ≤ g.S.Sink.write_faults l.out
+  counted : g.S.Sink.write_faults l.fn.out ≤ g.S.Sink.write_faults l.out;
 }
 
 abbrev pub decreases-loop-place : goal.decreases-loop-place

@@ -1,7 +1,6 @@
-use Rattle.std.proofs.Common.{rules, ◌≡◌, ℤ, FitsSigned, w32, to_z, of_z, ◌++◌}
+use Rattle.std.proofs.Common.{rules, FitsSigned, w32}
 use Rattle.std.proofs.lemmas.Int.{to_z-of_z}
 use Rattle.std.specs.Fmt.{signed_decimal}
-use Rattle.tester_cli.specs.Report.{end_text}
 use Rattle.tester_cli.proofs.ReportLemmas.{two_pieces}
 use Rattle.tester_cli.proofs.report.push_end.Goals as goal
 

@@ -1,0 +1,38 @@
+-- The stages of a bar, at each of which it gives one quote.
+use Rattle.std.specs.Prelude.{ℕ, Bool, true, false, List, drop, if◌then◌else◌, ℤ}
+use Rattle.market_data.specs.declared.bar.Bar.{Bar}
+use Rattle.market_data.specs.declared.quote.Quote.{Quote}
+use Rattle.market_data.specs.declared.quotes.Stage.{Stage}
+use Rattle.market_data.specs.declared.quotes.Stage.TheVariants as stage
+use Rattle.market_data.specs.Quotes.{rises, opening_quotes}
+
+-- how many quotes of the bar are given before the stage
+abbrev pub given_before : Stage → ℕ
+given_before stage.Opening = 0
+given_before stage.Early = 1
+given_before stage.Late = 2
+given_before stage.Closing = 3
+
+-- the quotes that are left, where the first bar is at a stage
+abbrev pub quotes_left : ℕ → List Bar → Stage → List Quote
+quotes_left digits bars at = drop (given_before at) (opening_quotes digits bars)
+
+-- the price of the bar at a stage
+abbrev pub price_at : Bar → Stage → ℤ
+price_at bar stage.Opening = bar.o
+price_at bar stage.Early = if rises bar then bar.l else bar.h
+price_at bar stage.Late = if rises bar then bar.h else bar.l
+price_at bar stage.Closing = bar.c
+
+-- how many seconds after the bar's opening the stage is
+abbrev pub seconds_at : Stage → ℕ
+seconds_at stage.Opening = 0
+seconds_at stage.Early = 20
+seconds_at stage.Late = 40
+seconds_at stage.Closing = 59
+
+abbrev pub is_loud : Stage → Bool
+is_loud stage.Opening = true
+is_loud stage.Early = false
+is_loud stage.Late = false
+is_loud stage.Closing = false

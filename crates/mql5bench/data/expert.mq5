@@ -1,0 +1,1 @@
+void OnTick(){Print("n=","2");}

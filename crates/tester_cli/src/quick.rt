@@ -1,0 +1,140 @@
+//! `quick EXPERT BARS`: an expert over a bars file, at opening prices and with the default settings.
+ghost use Rattle.std.specs.Prelude.{◌≡◌, ◌≤◌, [], None, Some, ◌∷◌, length, All, IfOk, IfErr};
+ghost use Rattle.mql_mean.specs.declared.tree.Checked.{Checked};
+ghost use Rattle.mql_lower.specs.Follows.{Follows};
+ghost use Rattle.mql_source.specs.Source.{checked_of};
+ghost use Rattle.market_data.specs.BarsFile.{bars_of, IsBar};
+ghost use Rattle.tester_io.specs.Outside.{WhereTold};
+ghost use Rattle.tester_cli.specs.Answer.{Gives};
+ghost use Rattle.tester_cli.specs.Clauses.{counts, NoneFell, Refused, Never, SourceStatus, BarsStatus};
+ghost use Rattle.tester_cli.specs.Commands.{quick_plan, quick_bars, Reports};
+ghost use Rattle.tester_cli.specs.Compiling.{IsProgramOf};
+
+use crate::compiler::{CompileFault, Source, Sources, compile};
+use crate::outside::read;
+use crate::pass::run_pass;
+use crate::report::report_text;
+use crate::status::Status;
+use fx8::{OutOfMemory, Text, Text8};
+use market_data::{BarList, RowFault, read_bars};
+use stack_vm::Program;
+use std::alloc::Global;
+use tester_io::Files;
+
+/// The most bytes of a source.
+const SOURCE_LIMIT: u64 = 4_194_304;
+
+/// The most bytes of a price file.
+const PRICE_LIMIT: u64 = 536_870_912;
+
+// The units of a text of one byte each.
+fn widened(alloc: Global, bytes: &[u8]) -> Result<Text, OutOfMemory>
+    ensures { IfOk result (λ text. text ≡ bytes.now) }
+{
+    let mut text = Text::new(alloc);
+    for byte in bytes {
+        text.push(u16::from(*byte))?;
+    }
+    Ok(text)
+}
+
+fn named(alloc: Global, name: &str) -> Result<Text8, OutOfMemory>
+    ensures { IfOk result (λ text. text ≡ name.now) }
+{
+    Text8::from_slice(alloc, name.as_bytes())
+}
+
+// The one source of a name.
+fn alone(alloc: Global, name: &Text8, bytes: &[u8]) -> Result<Sources, OutOfMemory>
+    ensures { IfOk result (λ sources. sources ≡ record { name = name.now; text = bytes.now } ∷ []) }
+{
+    let name = Text8::from_slice(alloc, name.as_slice())?;
+    let text = widened(alloc, bytes)?;
+    let mut sources = Sources::new(alloc);
+    sources.push(Source { name, text })?;
+    Ok(sources)
+}
+
+// The program of a source, or the status that refuses it.
+fn judge_source(alloc: Global, name: &Text8, bytes: &[u8]) -> Result<Program, Status>
+    ensures program { IfOk result (IsProgramOf bytes.now) }
+    ensures refused { IfErr result (SourceStatus name.now bytes.now) }
+{
+    let sources = alone(alloc, name, bytes)?;
+    match compile(alloc, name, &sources) {
+        Ok(program) => Ok(program),
+        Err(CompileFault::Source(fault)) => Err(Status::Source(fault)),
+        Err(CompileFault::Need(_)) => unreachable!(),
+        Err(CompileFault::OutOfMemory) => Err(Status::OutOfMemory),
+    }
+}
+
+// The bars of a file, or the status that refuses it.
+fn judge_bars(alloc: Global, name: Text8, bytes: &[u8]) -> Result<BarList, Status>
+    ensures bars { IfOk result (λ bars. bars_of bytes.now ≡ Some bars) }
+    ensures ranges { IfOk result (All IsBar) }
+    ensures few { IfOk result (λ bars. length bars ≤ 4000000) }
+    ensures refused { IfErr result (BarsStatus name bytes.now) }
+{
+    match read_bars(alloc, bytes) {
+        Ok(bars) => Ok(bars),
+        Err(RowFault::Rule { row, rule }) => Err(Status::Prices {
+            file: name,
+            row,
+            rule,
+        }),
+        Err(RowFault::OutOfMemory) => Err(Status::OutOfMemory),
+    }
+}
+
+// The report of a program over bars.
+fn report(alloc: Global, program: &Program, bars: &BarList) -> Result<Text8, OutOfMemory>
+    requires ranges { All IsBar bars.now }
+    requires few { length bars.now ≤ 4000000 }
+    ensures { IfOk result (λ text. (checked : Checked) → Follows checked program.now → Reports checked bars.now text) }
+{
+    let outcome = run_pass(alloc, program, bars)?;
+    report_text(alloc, &outcome)
+}
+
+// From the program on: the bars are read and judged, and the report is made.
+fn over_bars<F: Files>(
+    alloc: Global,
+    program: &Program,
+    bars: &str,
+    files: &mut F,
+) -> Result<Text8, Status>
+    ensures same { F.told files.new ≡ F.told files.old }
+    ensures none_fell { NoneFell (counts (F.absents files.old) (F.read_faults files.old) (F.oversizes files.old))
+        (counts (F.absents files.new) (F.read_faults files.new) (F.oversizes files.new)) }
+    ensures ready { IfOk result (λ text. (checked : Checked) → Follows checked program.now → WhereTold (F.told files.old)
+        (λ held. Gives (quick_bars bars.now checked) held Status.Done text held)) }
+    ensures refused { IfErr result (λ status. (checked : Checked) → Refused Never (quick_bars bars.now checked) (F.told files.old)
+        (counts (F.absents files.old) (F.read_faults files.old) (F.oversizes files.old))
+        (counts (F.absents files.new) (F.read_faults files.new) (F.oversizes files.new)) status) }
+{
+    let name = named(alloc, bars)?;
+    let bytes = read(alloc, files, &name, PRICE_LIMIT)?;
+    let rows = judge_bars(alloc, name, bytes.as_slice())?;
+    let text = report(alloc, program, &rows)?;
+    Ok(text)
+}
+
+/// The report of the expert over the bars, or why there is none.
+pub fn quick<F: Files>(
+    alloc: Global,
+    expert: &str,
+    bars: &str,
+    files: &mut F,
+) -> Result<Text8, Status>
+    ensures same { F.told files.new ≡ F.told files.old }
+    ensures ready { IfOk result (λ text. WhereTold (F.told files.old) (λ held. Gives (quick_plan expert.now bars.now) held Status.Done text held)) }
+    ensures refused { IfErr result (Refused Never (quick_plan expert.now bars.now) (F.told files.old)
+        (counts (F.absents files.old) (F.read_faults files.old) (F.oversizes files.old))
+        (counts (F.absents files.new) (F.read_faults files.new) (F.oversizes files.new))) }
+{
+    let name = named(alloc, expert)?;
+    let source = read(alloc, files, &name, SOURCE_LIMIT)?;
+    let program = judge_source(alloc, &name, source.as_slice())?;
+    over_bars(alloc, &program, bars, files)
+}

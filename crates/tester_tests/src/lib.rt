@@ -1,0 +1,11 @@
+//! Tests of the commands from end to end, over files and a sink in memory.
+#![tactic(auto)]
+
+#[cfg(test)]
+mod outside;
+#[cfg(test)]
+mod parts;
+#[cfg(test)]
+mod quick;
+#[cfg(test)]
+mod statuses;

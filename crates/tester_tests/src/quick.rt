@@ -1,0 +1,121 @@
+//! `quick` over whole files, and each way in which the outside can fail.
+use crate::outside::{BARS, EXPERT, REPORT, files, run, sink, words};
+use fx8::Text8;
+use std::test::Fail;
+use tester_cli::{Status, run_single};
+use tester_io::{CalmFiles, CalmSink};
+
+/// The names and bytes of a run that is done.
+const HELD: [(&[u8], &[u8]); 2] = [(b"a.mq5", EXPERT), (b"bars.csv", BARS)];
+
+const LINE: [&str; 3] = ["quick", "a.mq5", "bars.csv"];
+
+#[test]
+fn reports_what_an_expert_prints_at_three_bars(rt: HostRuntime) -> Result<(), Fail> {
+    let mut files = files(rt.alloc(), &HELD, &[])?;
+    let mut out = sink(rt.alloc(), &[])?;
+    let words = words(rt.alloc(), &LINE)?;
+    let status = run_single(rt.alloc(), words.as_slice(), &mut files, &mut out);
+    assert_eq!(rt; status.number(), 0);
+    assert_eq!(rt; out.bytes().as_slice(), REPORT);
+    Ok(())
+}
+
+#[test]
+fn reports_over_files_that_never_fail(rt: HostRuntime) -> Result<(), Fail> {
+    let mut files = CalmFiles::new(rt.alloc());
+    for (name, bytes) in &HELD {
+        files.set(&Text8::from_slice(rt.alloc(), *name)?, *bytes)?;
+    }
+    let mut out = CalmSink::new(rt.alloc());
+    let words = words(rt.alloc(), &LINE)?;
+    let status = run_single(rt.alloc(), words.as_slice(), &mut files, &mut out);
+    assert!(rt; matches!(status, Status::Done));
+    assert_eq!(rt; out.bytes().as_slice(), REPORT);
+    Ok(())
+}
+
+#[test]
+fn tells_the_first_fault_of_words_and_files(rt: HostRuntime) -> Result<(), Fail> {
+    let table: [(&[&str], &[(&[u8], &[u8])], &[u32], &[u8]); 15] = [
+        (&[], &HELD, &[], b"error 1 2\n"),
+        (&["Quick", "a.mq5", "bars.csv"], &HELD, &[], b"error 1 2\n"),
+        (&["quick"], &HELD, &[], b"error 1 3\n"),
+        (&["quick", "a.mq5"], &HELD, &[], b"error 1 3\n"),
+        (
+            &["quick", "a.mq5", "bars.csv", "x"],
+            &HELD,
+            &[0],
+            b"error 1 3\n",
+        ),
+        (&LINE, &[], &[], b"error 7 a.mq5\n"),
+        (&LINE, &HELD, &[0], b"error 8 a.mq5\n"),
+        (&LINE, &[(b"bars.csv", BARS)], &[], b"error 7 a.mq5\n"),
+        (
+            &LINE,
+            &[(b"a.mq5", b"int x;")],
+            &[],
+            b"error 2 7 1 a.mq5 1\n",
+        ),
+        (
+            &LINE,
+            &[(b"a.mq5", b"void OnTick(){}\n\xe9"), (b"bars.csv", BARS)],
+            &[],
+            b"error 2 7 1 a.mq5 1\n",
+        ),
+        (&LINE, &[(b"a.mq5", EXPERT)], &[], b"error 7 bars.csv\n"),
+        (&LINE, &HELD, &[1], b"error 8 bars.csv\n"),
+        (
+            &LINE,
+            &[(b"a.mq5", EXPERT), (b"bars.csv", b"")],
+            &[],
+            b"error 4 bars.csv 0 10\n",
+        ),
+        (
+            &["quick", "bars.csv", "a.mq5"],
+            &HELD,
+            &[],
+            b"error 2 7 1 bars.csv 1\n",
+        ),
+        (
+            &["quick", "a.mq5", "a.mq5"],
+            &HELD,
+            &[],
+            b"error 4 a.mq5 0 10\n",
+        ),
+    ];
+    for (line, held, fails, want) in &table {
+        let mut files = files(rt.alloc(), *held, *fails)?;
+        let mut out = sink(rt.alloc(), &[])?;
+        let told = run(rt.alloc(), *line, &mut files, &mut out)?;
+        assert_eq!(rt; told.as_slice(), *want);
+        assert!(rt; out.bytes().is_empty());
+    }
+    Ok(())
+}
+
+#[test]
+fn writes_a_beginning_where_a_write_fails(rt: HostRuntime) -> Result<(), Fail> {
+    for call in 0..3u32 {
+        let mut files = files(rt.alloc(), &HELD, &[])?;
+        let mut out = sink(rt.alloc(), &[call])?;
+        let told = run(rt.alloc(), &LINE, &mut files, &mut out)?;
+        assert_eq!(rt; told.as_slice(), b"error 9\n".as_slice());
+        let written = out.bytes().as_slice();
+        assert_eq!(rt; written.len(), 64 * call as usize);
+        assert!(rt; REPORT.starts_with(written));
+    }
+    Ok(())
+}
+
+#[test]
+fn runs_again_over_the_same_files_and_writes_the_same(rt: HostRuntime) -> Result<(), Fail> {
+    let mut files = files(rt.alloc(), &HELD, &[])?;
+    for _ in 0..2 {
+        let mut out = sink(rt.alloc(), &[])?;
+        let told = run(rt.alloc(), &LINE, &mut files, &mut out)?;
+        assert!(rt; told.is_empty());
+        assert_eq!(rt; out.bytes().as_slice(), REPORT);
+    }
+    Ok(())
+}

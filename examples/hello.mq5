@@ -1,0 +1,4 @@
+void OnTick()
+{
+  Print("a new bar, ", "and a line for it");
+}
