@@ -1,12 +1,11 @@
 -- Parts that operators join, from the left.
-use Rattle.std.proofs.Common.{◌≡◌, ℕ, List, [], ◌∷◌, ◌++◌, Option, Some, None, refl, sym, ap, ◌∙◌}
+use Rattle.std.proofs.Common.{◌≡◌, List, Option, Some, None, sym, ap, ◌∙◌}
 use Rattle.fx8.specs.declared.int_operator.IntOperator.{IntOperator}
 use Rattle.mql_mean.specs.declared.tree.Expression.{Expression}
 use Rattle.mql_source.specs.declared.token.Token.{Token}
 use Rattle.mql_source.specs.declared.token.Located.{Located}
 use Rattle.mql_source.specs.Reading.{Reading, Reader, ◌>>=◌}
-use Rattle.mql_source.specs.Numbers.{of_sum, of_product, first_operator, applied, signed, joined, join, level, product_in, sum_in, number}
-use Rattle.mql_source.proofs.Recursive.{Leaves}
+use Rattle.mql_source.specs.Numbers.{of_sum, of_product, first_operator, applied, signed, joined, join, level, product_in, number}
 use Rattle.mql_source.proofs.Readers.{Strict, join_is, number_is, product_is_strict, signed_is_strict}
 
 module _ (operators : Token → Option IntOperator) (part : Reader Expression) where

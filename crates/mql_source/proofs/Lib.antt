@@ -5,3 +5,5 @@ pub mod Numbers
 pub mod Readers
 pub mod Recursive
 pub mod Steps
+pub mod Fits
+pub mod Typed

@@ -1,11 +1,11 @@
 -- Arguments and statements that were read, before those of the rest.
-use Rattle.std.proofs.Common.{◌≡◌, ℕ, List, [], ◌∷◌, ◌++◌, Option, Some, None, refl, sym, ap, ◌∙◌, append_assoc}
+use Rattle.std.proofs.Common.{◌≡◌, List, [], ◌∷◌, ◌++◌, Option, Some, None, refl, sym, ap, ◌∙◌, append_assoc}
 use Rattle.std.proofs.lemmas.List.{append-nil}
 use Rattle.mql_mean.specs.declared.tree.Expression.{Expression}
 use Rattle.mql_mean.specs.declared.tree.Statement.{Statement}
 use Rattle.mql_source.specs.declared.token.Sign.TheVariants.{CloseRound, CloseCurly, Comma}
 use Rattle.mql_source.specs.declared.token.Located.{Located}
-use Rattle.mql_source.specs.Reading.{Reading, Reader, ◌>>=◌, after}
+use Rattle.mql_source.specs.Reading.{Reading, ◌>>=◌, after}
 use Rattle.mql_source.specs.Grammar.{argument, with_argument, after_argument_at, after_argument, arguments, item, with_statement, items_at, statement, statements}
 use Rattle.mql_source.proofs.Before.{before_read}
 use Rattle.mql_source.proofs.Readers.{arguments_is, statements_is}

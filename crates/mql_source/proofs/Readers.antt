@@ -1,5 +1,5 @@
 -- What the readers of the grammar leave, and the equations of those that call themselves.
-use Rattle.std.proofs.Common.{◌≡◌, ℕ, zero, suc, ◌+◌, ◌<◌, ◌≤◌, Bool, true, false, cond, List, [], ◌∷◌, length, Option, Some, None, refl, sym, ap, ◌∙◌, arith}
+use Rattle.std.proofs.Common.{◌≡◌, ℕ, ◌+◌, ◌<◌, ◌≤◌, Bool, true, false, cond, List, [], ◌∷◌, length, Option, Some, None, refl, ap, ◌∙◌, arith}
 use Rattle.fx8.specs.declared.int_operator.IntOperator.{IntOperator}
 use Rattle.mql_mean.specs.declared.tree.Expression.{Expression}
 use Rattle.mql_mean.specs.declared.tree.Statement.{Statement}
@@ -10,9 +10,9 @@ use Rattle.mql_source.specs.declared.token.Token.{Token}
 use Rattle.mql_source.specs.declared.token.Token.TheVariants.{Print, Int, If, While, True, False, Mark, Quoted, Number, Local}
 use Rattle.mql_source.specs.declared.token.Located.{Located}
 use Rattle.mql_source.specs.Reading.{Reading, Reader, ◌>>=◌, recursive, is_sign, after}
-use Rattle.mql_source.specs.Numbers.{of_sum, of_product, of_comparison, first_operator, bracketed, operand_at, negated, negative, applied, signed, joined, join_step, join, level, product_in, sum_in, number_step, number, compared, condition_at, condition, guard}
+use Rattle.mql_source.specs.Numbers.{of_sum, of_product, of_comparison, first_operator, bracketed, operand_at, negated, applied, signed, joined, join_step, join, level, product_in, sum_in, number_step, number, compared, condition_at, condition, guard}
 use Rattle.mql_source.specs.Grammar.{argument_at, argument, with_argument, after_argument_at, after_argument, arguments_step, arguments, print, assignment, local_of, declaration, governed, block, statement_at, item_at, item, with_statement, items_at, items_step, items, statement_step, statement, statements}
-use Rattle.mql_source.proofs.Recursive.{Leaves, LeavesTokens, then_any, then_tokens, then_read, leaves_more, chosen_leaves, then_same, then_tokens_same, Leaving, Agree, Keeps, Local as Locally, recursive_leaving, recursive_step, recursive_same}
+use Rattle.mql_source.proofs.Recursive.{Leaves, LeavesTokens, then_any, then_tokens, then_read, leaves_more, chosen_leaves, then_same, Leaving, Agree, Keeps, Local as Locally, recursive_leaving, recursive_step, recursive_same}
 
 -- a reader leaves fewer tokens than it has
 abbrev pub Strict : {A : Type 0} → Reader A → Type 0
@@ -60,8 +60,8 @@ signed_leaves : (inside : Reader Expression) → Strict inside → Strict (signe
 signed_leaves inside h [] = tt
 signed_leaves inside h (first ∷ rest) =
     chosen_leaves (is_sign Minus first.token) (negated (signed inside rest)) (operand_at inside first.token rest) (length (first ∷ rest))
-        (leaves_more (negated (signed inside rest)) (length rest + 1) (length (first ∷ rest)) (omega arith) (negated_leaves (signed inside rest) (length rest) (signed_leaves inside h rest)))
-        (leaves_more (operand_at inside first.token rest) (length rest + 1) (length (first ∷ rest)) (omega arith) (operand_leaves inside first.token rest (h rest)))
+    (leaves_more (negated (signed inside rest)) (length rest + 1) (length (first ∷ rest)) (omega arith) (negated_leaves (signed inside rest) (length rest) (signed_leaves inside h rest)))
+    (leaves_more (operand_at inside first.token rest) (length rest + 1) (length (first ∷ rest)) (omega arith) (operand_leaves inside first.token rest (h rest)))
 
 operand_same : (f g : Reader Expression) (token : Token) (rest : List Located) → f rest ≡ g rest → operand_at f token rest ≡ operand_at g token rest
 unfolding operand_at bracketed
@@ -112,7 +112,7 @@ join_same : (operators : Token → Option IntOperator) (p q : Reader Expression)
 unfolding join
 join_same operators p q n sp sq s left tokens h =
     recursive_same (join_step operators p) 1 (join_keeps operators p sp) (join_local operators p sp) (join_step operators q) (join_keeps operators q sq) n
-        (λ f x others l k. part_same (first_operator operators others) p q f x others n (operator_leaves operators others) k s) left tokens h
+    (λ f x others l k. part_same (first_operator operators others) p q f x others n (operator_leaves operators others) k s) left tokens h
 
 level_same : (operators : Token → Option IntOperator) (p q : Reader Expression) (n : ℕ) → Strict p → Strict q → Same p q n → Same (level operators p) (level operators q) n
 unfolding level
@@ -129,7 +129,7 @@ sum_strict inside h = level_strict of_sum (product_in inside) (product_strict in
 sum_same : (f g : Reader Expression) (n : ℕ) → Strict f → Strict g → Same f g n → Same (sum_in f) (sum_in g) (n + 1)
 sum_same f g n sf sg s =
     level_same of_sum (product_in f) (product_in g) (n + 1) (product_strict f sf) (product_strict g sg)
-        (level_same of_product (signed f) (signed g) (n + 1) (signed_leaves f sf) (signed_leaves g sg) (signed_same f g n s))
+    (level_same of_product (signed f) (signed g) (n + 1) (signed_leaves f sf) (signed_leaves g sg) (signed_same f g n s))
 
 -- from the form with a bound
 strict_of : {A : Type 0} (f : Unit {0} → Reader A) → Leaving 0 f → Strict (f tt)
@@ -228,8 +228,8 @@ arguments_keeps : Keeps 0 arguments_step
 arguments_keeps f l u tokens =
     let n = length tokens in
     leaving_of (arguments_step f u tokens) n
-        (then_read (argument tokens) (λ value. after_argument value.0 (f tt) value.1) n n (argument_strict tokens) (λ value h.
-        leaves_more (after_argument value.0 (f tt) value.1) (length value.1) n (omega arith) (after_argument_strict value.0 (f tt) (strict_of f l) value.1)))
+    (then_read (argument tokens) (λ value. after_argument value.0 (f tt) value.1) n n (argument_strict tokens) (λ value h.
+    leaves_more (after_argument value.0 (f tt) value.1) (length value.1) n (omega arith) (after_argument_strict value.0 (f tt) (strict_of f l) value.1)))
 
 arguments_local : Locally 0 arguments_step
 arguments_local f g u tokens lf lg a =
@@ -353,14 +353,14 @@ items_same : (f g : Reader Statement) (n : ℕ) → Strict f → Strict g → Sa
 unfolding items
 items_same f g n sf sg s tokens h =
     recursive_same (items_step f) 0 (items_keeps f sf) (items_local f sf) (items_step g) (items_keeps g sg) n
-        (λ more u others l k. one_same (after CloseCurly others) f g (more tt) others (s others k)) tt tokens h
+    (λ more u others l k. one_same (after CloseCurly others) f g (more tt) others (s others k)) tt tokens h
 
 statement_keeps : Keeps 0 statement_step
 statement_keeps f l u [] = tt
 statement_keeps f l u (first ∷ rest) =
     let s = strict_of f l in
     leaves_more (statement_step f u (first ∷ rest)) (length rest + 1) (length (first ∷ rest) + 0) (omega arith)
-        (statement_at_leaves (f tt) (items (f tt)) first.token first.line rest s (items_strict (f tt) s))
+    (statement_at_leaves (f tt) (items (f tt)) first.token first.line rest s (items_strict (f tt) s))
 
 statement_local : Locally 0 statement_step
 statement_local f g u [] lf lg a = refl
@@ -368,7 +368,7 @@ statement_local f g u (first ∷ rest) lf lg a =
     let sf = strict_of f lf in
     let sg = strict_of g lg in
     statement_at_same (f tt) (g tt) (items (f tt)) (items (g tt)) first.token first.line rest (λ others h. a tt others (omega arith))
-        (items_same (f tt) (g tt) (length (first ∷ rest)) sf sg (λ others h. a tt others h) rest (omega arith))
+    (items_same (f tt) (g tt) (length (first ∷ rest)) sf sg (λ others h. a tt others h) rest (omega arith))
 
 pub statement_strict : Strict statement
 unfolding statement

@@ -1,5 +1,5 @@
 -- Readers that call themselves.
-use Rattle.std.proofs.Common.{◌≡◌, ℕ, zero, suc, ◌+◌, ◌<◌, ◌≤◌, Bool, true, false, cond, List, [], ◌∷◌, length, Option, Some, None, refl, sym, ap, ◌∙◌, arith}
+use Rattle.std.proofs.Common.{◌≡◌, ℕ, zero, suc, ◌+◌, ◌<◌, ◌≤◌, Bool, true, false, cond, List, length, Option, Some, None, refl, ◌∙◌, arith}
 use Rattle.mql_source.specs.declared.token.Located.{Located}
 use Rattle.mql_source.specs.Reading.{Reading, Reader, ◌>>=◌, within, recursive}
 
@@ -77,7 +77,7 @@ module _ {X A : Type 0} (step : (X → Reader A) → X → Reader A) (d : ℕ) (
     unfolding recursive
     recursive_step x tokens =
         local (within step (length tokens)) (recursive step) x tokens (within_leaving (length tokens)) recursive_leaving
-            (λ y others h. enough (length tokens) (suc (length others)) y others h (omega arith))
+        (λ y others h. enough (length tokens) (suc (length others)) y others h (omega arith))
 
     -- a step that does the same on fewer tokens than so many
     module _ (other : (X → Reader A) → X → Reader A) (other_keeps : Keeps d other) (n : ℕ) (same : (f : X → Reader A) (x : X) (tokens : List Located) → Leaving d f → length tokens < n → step f x tokens ≡ other f x tokens) where

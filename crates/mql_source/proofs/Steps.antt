@@ -53,4 +53,3 @@ pub token_none : (found : List Located) (token : Token) (scope : Scope) (more li
 token_none found token scope more line byte text rest e f n =
     ap (λ (o : Option (List Located)). before found (o >>= with_locals scope)) (here token more line byte text rest e f)
     ∙ no_token found (record { token = token; line = line }) scope (tokens_from 0 line (drop more rest)) n
-

@@ -11,7 +11,7 @@ use Rattle.mql_source.specs.declared.token.Sign.TheVariants.{OpenRound, CloseRou
 use Rattle.mql_source.specs.declared.token.Token.{Token}
 use Rattle.mql_source.specs.declared.token.Token.TheVariants.{Void, OnTick, Print, Int, If, While, Mark, Quoted, Local}
 use Rattle.mql_source.specs.declared.token.Located.{Located}
-use Rattle.mql_source.specs.Reading.{Reading, Reader, ◌>>=◌, recursive, is_sign, after}
+use Rattle.mql_source.specs.Reading.{Reading, Reader, ◌>>=◌, recursive, after}
 use Rattle.mql_source.specs.Numbers.{number, guard}
 
 abbrev pub argument_at : Token → (tokens rest : List Located) → Reading Expression

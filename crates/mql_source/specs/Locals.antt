@@ -1,6 +1,5 @@
 -- The numbers of local variables (MQL5 Reference, Language Basics, Variables, Local Variables).
-use Rattle.std.specs.Prelude.{ℕ, ◌+◌, ◌-◌, Bool, true, false, ◌||◌, if◌then◌else◌, List, [], ◌∷◌, ◌++◌, length, take, Option, Some, None, slice_get, slice_index, bytes_eq}
-use Rattle.std.specs.List.{list_any}
+use Rattle.std.specs.Prelude.{ℕ, ◌-◌, Bool, true, false, ◌||◌, if◌then◌else◌, List, [], ◌∷◌, ◌++◌, length, take, Option, Some, None, slice_get, slice_index, bytes_eq}
 use Rattle.mql_source.specs.Reading.{◌>>=◌}
 use Rattle.mql_source.specs.Tokens.{tokens, with_token}
 use Rattle.mql_source.specs.declared.token.Sign.TheVariants.{OpenCurly, CloseCurly, Semicolon}

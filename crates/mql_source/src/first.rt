@@ -24,7 +24,11 @@ pub fn after(sign: Sign, tokens: &[Located]) -> Option<&[Located]>
     ensures shorter { IfSome result (λ rest. length rest.now < length tokens.now) }
 {
     let (first, rest) = parted(tokens)?;
-    if is_sign(sign, &first.token) { Some(rest) } else { None }
+    if is_sign(sign, &first.token) {
+        Some(rest)
+    } else {
+        None
+    }
 }
 
 #[tactic(auto, unfolding(crate::specs::Numbers::of_sum))]

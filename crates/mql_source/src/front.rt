@@ -137,10 +137,26 @@ fn comparison_front(byte: u8, next: u8) -> Front
 {
     let longer = next == b'=';
     match byte {
-        b'=' => if longer { two(Sign::Equal) } else { one(Sign::Assign) },
-        b'<' => if longer { two(Sign::LessOrEqual) } else { alone(next == b'<', Sign::Less) },
-        b'>' => if longer { two(Sign::GreaterOrEqual) } else { alone(next == b'>', Sign::Greater) },
-        b'!' => if longer { two(Sign::NotEqual) } else { Front::Nothing },
+        b'=' => if longer {
+            two(Sign::Equal)
+        } else {
+            one(Sign::Assign)
+        },
+        b'<' => if longer {
+            two(Sign::LessOrEqual)
+        } else {
+            alone(next == b'<', Sign::Less)
+        },
+        b'>' => if longer {
+            two(Sign::GreaterOrEqual)
+        } else {
+            alone(next == b'>', Sign::Greater)
+        },
+        b'!' => if longer {
+            two(Sign::NotEqual)
+        } else {
+            Front::Nothing
+        },
         _ => mark_front(byte),
     }
 }

@@ -15,7 +15,10 @@ use std::alloc::Global;
 
 /// An argument of `Print`: a string or a number.
 #[tactic(auto, unfolding(crate::specs::Grammar::argument))]
-fn read_argument(alloc: Global, tokens: &[Located]) -> Result<Option<(Expression, &[Located])>, OutOfMemory>
+fn read_argument(
+    alloc: Global,
+    tokens: &[Located],
+) -> Result<Option<(Expression, &[Located])>, OutOfMemory>
     ensures exact { IfOk result (λ found. seen found ≡ argument tokens.now) }
     ensures shorter { IfOk result (λ found. IsShorter found (length tokens.now)) }
 {
@@ -32,7 +35,10 @@ fn read_argument(alloc: Global, tokens: &[Located]) -> Result<Option<(Expression
 }
 
 /// The arguments of a call, up to its closing bracket.
-fn read_arguments(alloc: Global, tokens: &[Located]) -> Result<Option<(ItemList<Expression>, &[Located])>, OutOfMemory>
+fn read_arguments(
+    alloc: Global,
+    tokens: &[Located],
+) -> Result<Option<(ItemList<Expression>, &[Located])>, OutOfMemory>
     ensures exact { IfOk result (λ found. seen found ≡ arguments tokens.now) }
     ensures shorter { IfOk result (λ found. IsShorter found (length tokens.now)) }
 {
@@ -55,7 +61,11 @@ fn read_arguments(alloc: Global, tokens: &[Located]) -> Result<Option<(ItemList<
 
 /// What stands after `Print`: its arguments in brackets, and a semicolon.
 #[tactic(auto, unfolding(crate::specs::Grammar::print))]
-fn read_print(alloc: Global, line: u32, tokens: &[Located]) -> Result<Option<(Statement, &[Located])>, OutOfMemory>
+fn read_print(
+    alloc: Global,
+    line: u32,
+    tokens: &[Located],
+) -> Result<Option<(Statement, &[Located])>, OutOfMemory>
     ensures exact { IfOk result (λ found. seen found ≡ print line tokens.now) }
     ensures shorter { IfOk result (λ found. IsShorter found (length tokens.now)) }
 {
@@ -74,7 +84,12 @@ fn read_print(alloc: Global, line: u32, tokens: &[Located]) -> Result<Option<(St
 
 /// What stands after a local that is given a value: `=`, the value, and a semicolon.
 #[tactic(auto, unfolding(crate::specs::Grammar::assignment))]
-fn read_assignment(alloc: Global, local: u32, line: u32, tokens: &[Located]) -> Result<Option<(Statement, &[Located])>, OutOfMemory>
+fn read_assignment(
+    alloc: Global,
+    local: u32,
+    line: u32,
+    tokens: &[Located],
+) -> Result<Option<(Statement, &[Located])>, OutOfMemory>
     ensures exact { IfOk result (λ found. seen found ≡ assignment local line tokens.now) }
     ensures shorter { IfOk result (λ found. IsShorter found (length tokens.now)) }
 {
@@ -92,7 +107,11 @@ fn read_assignment(alloc: Global, local: u32, line: u32, tokens: &[Located]) -> 
 
 /// What stands after `int`: a local that is given its first value.
 #[tactic(auto, unfolding(crate::specs::Grammar::declaration))]
-fn read_declaration(alloc: Global, line: u32, tokens: &[Located]) -> Result<Option<(Statement, &[Located])>, OutOfMemory>
+fn read_declaration(
+    alloc: Global,
+    line: u32,
+    tokens: &[Located],
+) -> Result<Option<(Statement, &[Located])>, OutOfMemory>
     ensures exact { IfOk result (λ found. seen found ≡ declaration line tokens.now) }
     ensures shorter { IfOk result (λ found. IsShorter found (length tokens.now)) }
 {
@@ -108,7 +127,11 @@ fn read_declaration(alloc: Global, line: u32, tokens: &[Located]) -> Result<Opti
 /// A condition and the statement that it governs.
 #[cycle(statements)]
 #[tactic(auto, unfolding(crate::specs::Grammar::governed))]
-fn read_if(alloc: Global, line: u32, tokens: &[Located]) -> Result<Option<(Statement, &[Located])>, OutOfMemory>
+fn read_if(
+    alloc: Global,
+    line: u32,
+    tokens: &[Located],
+) -> Result<Option<(Statement, &[Located])>, OutOfMemory>
     ensures exact { IfOk result (λ found. seen found ≡ governed (made.If line) statement tokens.now) }
     ensures shorter { IfOk result (λ found. IsShorter found (length tokens.now)) }
 {
@@ -126,7 +149,11 @@ fn read_if(alloc: Global, line: u32, tokens: &[Located]) -> Result<Option<(State
 /// The condition of a loop and the statement that it governs.
 #[cycle(statements)]
 #[tactic(auto, unfolding(crate::specs::Grammar::governed))]
-fn read_while(alloc: Global, line: u32, tokens: &[Located]) -> Result<Option<(Statement, &[Located])>, OutOfMemory>
+fn read_while(
+    alloc: Global,
+    line: u32,
+    tokens: &[Located],
+) -> Result<Option<(Statement, &[Located])>, OutOfMemory>
     ensures exact { IfOk result (λ found. seen found ≡ governed (made.While line) statement tokens.now) }
     ensures shorter { IfOk result (λ found. IsShorter found (length tokens.now)) }
 {
@@ -143,7 +170,11 @@ fn read_while(alloc: Global, line: u32, tokens: &[Located]) -> Result<Option<(St
 
 /// A block, behind its opening bracket.
 #[cycle(statements)]
-fn read_block(alloc: Global, line: u32, tokens: &[Located]) -> Result<Option<(Statement, &[Located])>, OutOfMemory>
+fn read_block(
+    alloc: Global,
+    line: u32,
+    tokens: &[Located],
+) -> Result<Option<(Statement, &[Located])>, OutOfMemory>
     ensures exact { IfOk result (λ found. seen found ≡ block line (statements tokens.now)) }
     ensures shorter { IfOk result (λ found. IsShorter found (length tokens.now)) }
 {
@@ -156,7 +187,10 @@ fn read_block(alloc: Global, line: u32, tokens: &[Located]) -> Result<Option<(St
 /// The statement that stands first.
 #[cycle(statements)]
 #[tactic(auto, using(crate::proofs::Readers::statement_is, crate::proofs::Readers::statement_none), unfolding(crate::specs::Grammar::statement_at))]
-fn read_statement(alloc: Global, tokens: &[Located]) -> Result<Option<(Statement, &[Located])>, OutOfMemory>
+fn read_statement(
+    alloc: Global,
+    tokens: &[Located],
+) -> Result<Option<(Statement, &[Located])>, OutOfMemory>
     ensures exact { IfOk result (λ found. seen found ≡ statement tokens.now) }
     ensures shorter { IfOk result (λ found. IsShorter found (length tokens.now)) }
 {
@@ -177,7 +211,10 @@ fn read_statement(alloc: Global, tokens: &[Located]) -> Result<Option<(Statement
 /// A declaration or a statement.
 #[cycle(statements)]
 #[tactic(auto, unfolding(crate::specs::Grammar::item))]
-fn read_item(alloc: Global, tokens: &[Located]) -> Result<Option<(Statement, &[Located])>, OutOfMemory>
+fn read_item(
+    alloc: Global,
+    tokens: &[Located],
+) -> Result<Option<(Statement, &[Located])>, OutOfMemory>
     ensures exact { IfOk result (λ found. seen found ≡ item statement tokens.now) }
     ensures shorter { IfOk result (λ found. IsShorter found (length tokens.now)) }
 {
@@ -192,7 +229,10 @@ fn read_item(alloc: Global, tokens: &[Located]) -> Result<Option<(Statement, &[L
 
 /// What stands in a block, up to its closing bracket.
 #[cycle(statements)]
-fn read_statements(alloc: Global, tokens: &[Located]) -> Result<Option<(ItemList<Statement>, &[Located])>, OutOfMemory>
+fn read_statements(
+    alloc: Global,
+    tokens: &[Located],
+) -> Result<Option<(ItemList<Statement>, &[Located])>, OutOfMemory>
     ensures exact { IfOk result (λ found. seen found ≡ statements tokens.now) }
     ensures shorter { IfOk result (λ found. IsShorter found (length tokens.now)) }
 {
@@ -228,7 +268,11 @@ fn after_name(tokens: &[Located]) -> Option<&[Located]>
 {
     let (first, rest) = parted(tokens)?;
     let (second, rest) = parted(rest)?;
-    if is_void(&first.token) && is_on_tick(&second.token) { Some(rest) } else { None }
+    if is_void(&first.token) && is_on_tick(&second.token) {
+        Some(rest)
+    } else {
+        None
+    }
 }
 
 /// The tokens after `void OnTick() {`.
@@ -244,7 +288,10 @@ fn after_header(tokens: &[Located]) -> Option<&[Located]>
 
 /// The body of the one function of a source.
 #[tactic(auto, unfolding(crate::specs::Grammar::body_of))]
-pub fn read_body(alloc: Global, tokens: &[Located]) -> Result<Option<ItemList<Statement>>, OutOfMemory>
+pub fn read_body(
+    alloc: Global,
+    tokens: &[Located],
+) -> Result<Option<ItemList<Statement>>, OutOfMemory>
     ensures { IfOk result (λ found. found ≡ body_of tokens.now) }
 {
     let Some(inside) = after_header(tokens) else {

@@ -34,11 +34,20 @@ fn negative(alloc: Global, value: Expression) -> Result<Expression, OutOfMemory>
 {
     let mut operands = ItemList::new(alloc);
     operands.push(value)?;
-    Ok(Expression::Apply(Operator::Unary(UnaryOperator::Minus), IntKind::Int, operands))
+    Ok(Expression::Apply(
+        Operator::Unary(UnaryOperator::Minus),
+        IntKind::Int,
+        operands,
+    ))
 }
 
 /// An operator between two numbers.
-fn applied(alloc: Global, operator: IntOperator, left: Expression, right: Expression) -> Result<Expression, OutOfMemory>
+fn applied(
+    alloc: Global,
+    operator: IntOperator,
+    left: Expression,
+    right: Expression,
+) -> Result<Expression, OutOfMemory>
     ensures { IfOk result (λ made. made ≡ applied operator left right) }
 {
     let mut operands = ItemList::new(alloc);
@@ -50,7 +59,10 @@ fn applied(alloc: Global, operator: IntOperator, left: Expression, right: Expres
 /// A number, then the bracket that closes round it.
 #[cycle(number)]
 #[tactic(auto, unfolding(crate::specs::Numbers::bracketed))]
-fn read_bracketed(alloc: Global, tokens: &[Located]) -> Result<Option<(Expression, &[Located])>, OutOfMemory>
+fn read_bracketed(
+    alloc: Global,
+    tokens: &[Located],
+) -> Result<Option<(Expression, &[Located])>, OutOfMemory>
     ensures exact { IfOk result (λ found. seen found ≡ bracketed number tokens.now) }
     ensures shorter { IfOk result (λ found. IsShorter found (length tokens.now)) }
 {
@@ -66,7 +78,10 @@ fn read_bracketed(alloc: Global, tokens: &[Located]) -> Result<Option<(Expressio
 /// An operand behind any number of minus signs.
 #[cycle(number)]
 #[tactic(auto, unfolding(crate::specs::Numbers::operand_at))]
-fn read_signed(alloc: Global, tokens: &[Located]) -> Result<Option<(Expression, &[Located])>, OutOfMemory>
+fn read_signed(
+    alloc: Global,
+    tokens: &[Located],
+) -> Result<Option<(Expression, &[Located])>, OutOfMemory>
     ensures exact { IfOk result (λ found. seen found ≡ signed number tokens.now) }
     ensures shorter { IfOk result (λ found. IsShorter found (length tokens.now)) }
 {
@@ -90,7 +105,10 @@ fn read_signed(alloc: Global, tokens: &[Located]) -> Result<Option<(Expression, 
 
 /// A product.
 #[cycle(number)]
-fn read_product(alloc: Global, tokens: &[Located]) -> Result<Option<(Expression, &[Located])>, OutOfMemory>
+fn read_product(
+    alloc: Global,
+    tokens: &[Located],
+) -> Result<Option<(Expression, &[Located])>, OutOfMemory>
     ensures exact { IfOk result (λ found. seen found ≡ product_in number tokens.now) }
     ensures shorter { IfOk result (λ found. IsShorter found (length tokens.now)) }
 {
@@ -109,7 +127,10 @@ fn read_product(alloc: Global, tokens: &[Located]) -> Result<Option<(Expression,
 
 /// A number: a sum.
 #[cycle(number)]
-pub fn read_number(alloc: Global, tokens: &[Located]) -> Result<Option<(Expression, &[Located])>, OutOfMemory>
+pub fn read_number(
+    alloc: Global,
+    tokens: &[Located],
+) -> Result<Option<(Expression, &[Located])>, OutOfMemory>
     ensures exact { IfOk result (λ found. seen found ≡ number tokens.now) }
     ensures shorter { IfOk result (λ found. IsShorter found (length tokens.now)) }
 {
@@ -128,7 +149,10 @@ pub fn read_number(alloc: Global, tokens: &[Located]) -> Result<Option<(Expressi
 
 /// Two numbers that a comparison joins.
 #[tactic(auto, unfolding(crate::specs::Numbers::compared))]
-fn read_compared(alloc: Global, tokens: &[Located]) -> Result<Option<(Expression, &[Located])>, OutOfMemory>
+fn read_compared(
+    alloc: Global,
+    tokens: &[Located],
+) -> Result<Option<(Expression, &[Located])>, OutOfMemory>
     ensures exact { IfOk result (λ found. seen found ≡ compared tokens.now) }
     ensures shorter { IfOk result (λ found. IsShorter found (length tokens.now)) }
 {
@@ -147,7 +171,10 @@ fn read_compared(alloc: Global, tokens: &[Located]) -> Result<Option<(Expression
 
 /// A condition: `true`, `false` or a comparison.
 #[tactic(auto, unfolding(crate::specs::Numbers::condition))]
-fn read_condition(alloc: Global, tokens: &[Located]) -> Result<Option<(Expression, &[Located])>, OutOfMemory>
+fn read_condition(
+    alloc: Global,
+    tokens: &[Located],
+) -> Result<Option<(Expression, &[Located])>, OutOfMemory>
     ensures exact { IfOk result (λ found. seen found ≡ condition tokens.now) }
     ensures shorter { IfOk result (λ found. IsShorter found (length tokens.now)) }
 {
@@ -163,7 +190,10 @@ fn read_condition(alloc: Global, tokens: &[Located]) -> Result<Option<(Expressio
 
 /// A condition in brackets.
 #[tactic(auto, unfolding(crate::specs::Numbers::guard))]
-pub fn read_guard(alloc: Global, tokens: &[Located]) -> Result<Option<(Expression, &[Located])>, OutOfMemory>
+pub fn read_guard(
+    alloc: Global,
+    tokens: &[Located],
+) -> Result<Option<(Expression, &[Located])>, OutOfMemory>
     ensures exact { IfOk result (λ found. seen found ≡ guard tokens.now) }
     ensures shorter { IfOk result (λ found. IsShorter found (length tokens.now)) }
 {

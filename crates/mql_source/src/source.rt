@@ -1,5 +1,6 @@
 //! From bytes to the tree.
-ghost use Rattle.std.specs.Prelude.{◌≡◌, IfOk};
+ghost use Rattle.std.specs.Prelude.{◌≡◌, IfOk, IfSome};
+ghost use Rattle.mql_mean.specs.Types.{Types};
 ghost use Rattle.mql_source.specs.Source.{checked_of, program_of};
 
 use crate::front::all_ascii;
@@ -17,7 +18,11 @@ const LONGEST: usize = 4096;
 const DEEPEST: u32 = 10;
 
 /// The program of one function `OnTick`.
-fn program_of(alloc: Global, locals: ItemList<IntKind>, body: ItemList<Statement>) -> Result<Checked, OutOfMemory>
+fn program_of(
+    alloc: Global,
+    locals: ItemList<IntKind>,
+    body: ItemList<Statement>,
+) -> Result<Checked, OutOfMemory>
     ensures { IfOk result (λ checked. checked ≡ program_of locals body) }
 {
     let name = units(alloc, b"OnTick")?;
@@ -32,7 +37,8 @@ fn program_of(alloc: Global, locals: ItemList<IntKind>, body: ItemList<Statement
 /// The tree of a source of the first level; `None` for every other text.
 #[tactic(auto, unfolding(crate::specs::Source::checked_of, crate::specs::Source::program_at))]
 pub fn read_source(alloc: Global, bytes: &[u8]) -> Result<Option<Checked>, OutOfMemory>
-    ensures { IfOk result (λ found. found ≡ checked_of bytes.now) }
+    ensures exact { IfOk result (λ found. found ≡ checked_of bytes.now) }
+    ensures typed { IfOk result (λ found. IfSome found Types) }
 {
     if bytes.len() > LONGEST || !all_ascii(bytes) {
         return Ok(None);

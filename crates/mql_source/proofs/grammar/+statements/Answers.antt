@@ -1,5 +1,5 @@
-use Rattle.std.proofs.Common.{◌≡◌, ◌<◌, ◌≤◌, [], ◌∷◌, ◌++◌, length, sym, ap, ◌∙◌, arith}
-use Rattle.mql_source.specs.Reading.{seen, IsShorter}
+use Rattle.std.proofs.Common.{sym, ap, ◌∙◌, arith}
+use Rattle.mql_source.specs.Reading.{seen}
 use Rattle.mql_source.specs.Grammar.{statements}
 use Rattle.mql_source.proofs.Before.{before_read}
 use Rattle.mql_source.proofs.Lists.{statement_step, statement_broken, statement_end}
@@ -20,8 +20,9 @@ pub read_statements-loop-others-preserved : goal.read_statements-loop-others-pre
 read_statements-loop-others-preserved t c =
     let others = c.in-Some-2.others.now in
     let one = sym c.in_ok-statement.ensures.exact ∙ ap seen c.in-Some-2.is in
-    let shorter = rw c.in-Some-2.is at c.in_ok-statement.ensures.shorter in
-    (ap (λ l. before_read l (statements others)) c.in_ok-push.ensures.ok
-     ∙ statement_step c.loop-others.found c.in-Some-2.statement c.loop-others.rest.now others (sym c.in_default.ensures.exact) one
-     ∙ c.loop-others.invariant.0,
-     omega (arith, shorter, c.loop-others.invariant.1))
+    let shorter = rw c.in-Some-2.is at c.in_ok-statement.ensures.shorter in (
+      ap (λ l. before_read l (statements others)) c.in_ok-push.ensures.ok
+          ∙ statement_step c.loop-others.found c.in-Some-2.statement c.loop-others.rest.now others (sym c.in_default.ensures.exact) one
+          ∙ c.loop-others.invariant.0,
+      omega (arith, shorter, c.loop-others.invariant.1),
+    )

@@ -1,5 +1,5 @@
-use Rattle.std.proofs.Common.{◌≡◌, ◌≤◌, ◌<◌, ◌+◌, ◌*◌, length}
-use Rattle.mql_source.specs.Numbers.{of_sum, of_product, signed, product_in, sum_in, number, join}
+use Rattle.std.proofs.Common.{◌≡◌, ◌<◌, ◌+◌, ◌*◌, length}
+use Rattle.mql_source.specs.Numbers.{of_sum, of_product, signed, product_in, number, join}
 use Rattle.mql_source.proofs.number.+number.Given as goal
 
 abbrev pub decreases-read_bracketed : goal.decreases-read_bracketed

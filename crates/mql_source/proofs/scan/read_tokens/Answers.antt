@@ -1,4 +1,4 @@
-use Rattle.std.proofs.Common.{◌≡◌, ◌+◌, ◌-◌, ◌<◌, ◌≤◌, length, take, drop, Some, sym, ap, ◌∙◌, arith, length-drop}
+use Rattle.std.proofs.Common.{◌≡◌, ◌-◌, ◌≤◌, length, take, drop, Some, sym, ap, ◌∙◌, arith, length-drop}
 use Rattle.std.proofs.lemmas.List.{take_all}
 use Rattle.mql_source.specs.Reading.{◌>>=◌}
 use Rattle.mql_source.specs.Locals.{numbered, with_locals, with_scope}
@@ -19,8 +19,9 @@ loop-after-preserved c =
     let enough : more ≤ length rest = omega (arith, within, long) in
     let tail = take_all (length rest - more) (drop more rest) (omega (arith, length-drop more rest)) in
     let one : numbered c.loop-after.scope c.in-Starts.token ≡ Some (c.in-Some-2.token, scope) =
-        sym c.in_ok-token-in-Starts.ensures.exact ∙ ap (λ o. with_scope o scope) c.in-Some-2.is in
-    let step = token_step c.loop-after.found c.in-Starts.token c.in-Some-2.token c.loop-after.scope scope more c.loop-after.line _ text rest split (sym c.in_ok-read_front.ensures.exact ∙ c.in-Starts.is) enough one in
-    (ap (λ l. before l (tokens_from 0 c.loop-after.line (take (length rest - more) (drop more rest)) >>= with_locals scope)) c.in_ok-push-in-Starts.ensures.ok ∙ step ∙ c.loop-after.invariant.0,
-     omega (arith, ap length tail, length-drop more rest, long, c.loop-after.invariant.1),
-     omega (arith, ap length tail, length-drop more rest, long, c.in_ok-token-in-Starts.ensures.grows, c.loop-after.invariant.2))
+    sym c.in_ok-token-in-Starts.ensures.exact ∙ ap (λ o. with_scope o scope) c.in-Some-2.is in
+    let step = token_step c.loop-after.found c.in-Starts.token c.in-Some-2.token c.loop-after.scope scope more c.loop-after.line _ text rest split (sym c.in_ok-read_front.ensures.exact ∙ c.in-Starts.is) enough one in (
+      ap (λ l. before l (tokens_from 0 c.loop-after.line (take (length rest - more) (drop more rest)) >>= with_locals scope)) c.in_ok-push-in-Starts.ensures.ok ∙ step ∙ c.loop-after.invariant.0,
+      omega (arith, ap length tail, length-drop more rest, long, c.loop-after.invariant.1),
+      omega (arith, ap length tail, length-drop more rest, long, c.in_ok-token-in-Starts.ensures.grows, c.loop-after.invariant.2),
+    )

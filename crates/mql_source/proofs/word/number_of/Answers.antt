@@ -1,4 +1,4 @@
-use Rattle.std.proofs.Common.{◌≡◌, ◌+◌, ◌-◌, ◌*◌, ◌<◌, false, sym, ◌∙◌, arith}
+use Rattle.std.proofs.Common.{◌≡◌, ◌+◌, ◌-◌, ◌*◌, false, sym, ◌∙◌, arith}
 use Rattle.mql_source.specs.Words.{is_digit}
 use Rattle.mql_source.proofs.Numbers.{number_digit, number_other, number_over}
 use Rattle.mql_source.proofs.word.number_of.Goals as goal
