@@ -1,4 +1,9 @@
 void OnTick()
 {
-  Print("a new bar, ", "and a line for it");
+   int n=2;
+   while(n>0)
+   {
+      if(n%2==0) Print("n=",n);
+      n=n-1;
+   }
 }

@@ -8,4 +8,6 @@ mod parts;
 #[cfg(test)]
 mod quick;
 #[cfg(test)]
+mod rows;
+#[cfg(test)]
 mod statuses;

@@ -77,6 +77,28 @@ fn other_sources_are_refused(rt: HostRuntime) -> Result<(), Fail> {
     Ok(())
 }
 
+// A step is spent at each entry of a function, those of the beginning and of OnTick, and at each test of a loop.
+#[test]
+fn a_loop_spends_the_bound(rt: HostRuntime) -> Result<(), Fail> {
+    let source = b"void OnTick(){Print(\"x\");while(true){}}";
+    let program = compiled(rt.alloc(), source)?.ok_or("refused")?;
+    if !program.has(Entry::Start) || !program.has(Entry::Tick) {
+        return Err("no entry".into());
+    }
+    for (bound, prints) in [(10, 1), (2, 1), (1, 0)] {
+        let mut machine = Machine::new(rt.alloc());
+        let mut world = TesterWorld::new(rt.alloc());
+        let mut steps = bound;
+        let begun = machine.call(&program, Entry::Start, 0, &mut steps, &mut world)?;
+        assert!(rt; matches!(begun, End::Returned(_)));
+        let ended = machine.call(&program, Entry::Tick, 0, &mut steps, &mut world)?;
+        assert!(rt; matches!(ended, End::Exhausted));
+        assert_eq!(rt; steps, 0);
+        assert_eq!(rt; world.into_prints().len(), prints);
+    }
+    Ok(())
+}
+
 /// 300 bars, one a minute.
 fn bars_of_five_hours(alloc: Global) -> Result<Vec<u8>, Fail> {
     let mut text = b"<DATE>,<TIME>,<OPEN>,<HIGH>,<LOW>,<CLOSE>,<TICKVOL>,<VOL>,<SPREAD>\n".to_vec(

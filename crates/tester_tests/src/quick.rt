@@ -94,9 +94,24 @@ fn tells_the_first_fault_of_words_and_files(rt: HostRuntime) -> Result<(), Fail>
     Ok(())
 }
 
+// A source of one byte more than its limit. (A price file that long would fill the machine's memory.)
+#[test]
+fn a_file_past_its_limit_is_too_large(rt: HostRuntime) -> Result<(), Fail> {
+    let mut long = Vec::new(rt.alloc());
+    for _ in 0..4_194_305u32 {
+        long.push(b' ')?;
+    }
+    let mut files = files(rt.alloc(), &[(b"a.mq5", long.as_slice()), (b"bars.csv", BARS)], &[])?;
+    let mut out = sink(rt.alloc(), &[])?;
+    let told = run(rt.alloc(), &LINE, &mut files, &mut out)?;
+    assert_eq!(rt; told.as_slice(), b"error 10 a.mq5\n".as_slice());
+    assert!(rt; out.bytes().is_empty());
+    Ok(())
+}
+
 #[test]
 fn writes_a_beginning_where_a_write_fails(rt: HostRuntime) -> Result<(), Fail> {
-    for call in 0..3u32 {
+    for call in 0..4u32 {
         let mut files = files(rt.alloc(), &HELD, &[])?;
         let mut out = sink(rt.alloc(), &[call])?;
         let told = run(rt.alloc(), &LINE, &mut files, &mut out)?;
