@@ -3,7 +3,5 @@
 
 mod draft;
 mod lowering;
-#[cfg(test)]
-mod tests;
 
 pub use lowering::lower;

