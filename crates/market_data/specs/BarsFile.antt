@@ -1,5 +1,5 @@
 -- The form of a bars file, and the bars that it says (MetaTrader 5 Help, Bars: export of history).
-use Rattle.std.specs.Prelude.{ℕ, ◌+◌, ◌-◌, ◌*◌, ◌^◌, Bool, true, ◌&&◌, ◌==◌, nat_le, nat_lt, if◌then◌else◌, List, [], ◌∷◌, length, Option, Some, None, option_map, ℤ, pos, ◌+ℤ◌, ◌*ℤ◌, int_lt, ◌≤◌, ◌<ℤ◌, ◌≤ℤ◌, codes, ◌≡◌}
+use Rattle.std.specs.Prelude.{ℕ, ◌+◌, ◌-◌, ◌*◌, ◌%◌, ◌^◌, unsigned_abs, Bool, true, ◌&&◌, ◌==◌, nat_le, nat_lt, if◌then◌else◌, List, [], ◌∷◌, length, Option, Some, None, option_map, ℤ, pos, ◌+ℤ◌, ◌*ℤ◌, int_lt, ◌≤◌, ◌<ℤ◌, ◌≤ℤ◌, codes, ◌≡◌}
 use Rattle.std.specs.Option.{option_and_then}
 use Rattle.std.specs.List.{slice_split}
 use Rattle.std.specs.Str.{bytes_eq}
@@ -201,10 +201,11 @@ pub record IsDayNumber (day : ℤ) : Type 0 where
   pub from : pos 0 ≤ℤ day
   pub to : day ≤ℤ pos 376199
 
--- a moment from 1970.01.01 00:00:00 to 2999.12.31 23:59:00, in seconds since the first
+-- the beginning of a minute from 1970.01.01 00:00 to 2999.12.31 23:59, in seconds since the first
 pub record IsMoment (seconds : ℤ) : Type 0 where
   pub from : pos 0 ≤ℤ seconds
   pub to : seconds ≤ℤ pos 32503679940
+  pub minute : unsigned_abs seconds % 60 ≡ 0
 
 -- the ranges that a bar of a file keeps
 pub record IsBar (bar : Bar) : Type 0 where

@@ -46,3 +46,9 @@ pub record IsQuote (q : Quote) : Type 0 where
   pub bid : IsPrice q.bid
   pub ask_from : q.bid ≤ℤ q.ask
   pub ask_to : q.ask ≤ℤ (q.bid +ℤ pos (10 ^ 14))
+
+-- the times of quotes do not fall
+abbrev pub AreTimed : List Quote → Type 0
+AreTimed [] = Unit {0}
+AreTimed (q ∷ []) = Unit {0}
+AreTimed (q ∷ next ∷ more) = (q.time_ms ≤ℤ next.time_ms) × AreTimed (next ∷ more)
