@@ -1,5 +1,5 @@
 -- The form of a bars file, and the bars that it says (MetaTrader 5 Help, Bars: export of history).
-use Rattle.std.specs.Prelude.{ℕ, ◌+◌, ◌-◌, ◌*◌, ◌^◌, Bool, true, ◌&&◌, ◌==◌, nat_le, nat_lt, if◌then◌else◌, List, [], ◌∷◌, length, Option, Some, None, option_map, ℤ, pos, ◌+ℤ◌, ◌*ℤ◌, int_lt, ◌≤◌, ◌<ℤ◌, ◌≤ℤ◌, codes, ◌≡◌}
+use Rattle.std.specs.Prelude.{ℕ, ◌+◌, ◌-◌, ◌*◌, ◌%◌, ◌^◌, unsigned_abs, Bool, true, ◌&&◌, ◌==◌, nat_le, nat_lt, if◌then◌else◌, List, [], ◌∷◌, length, Option, Some, None, option_map, ℤ, pos, ◌+ℤ◌, ◌*ℤ◌, int_lt, ◌≤◌, ◌<ℤ◌, ◌≤ℤ◌, codes, ◌≡◌}
 use Rattle.std.specs.Option.{option_and_then}
 use Rattle.std.specs.List.{slice_split}
 use Rattle.std.specs.Str.{bytes_eq}
@@ -45,23 +45,27 @@ whole_of digits limit text = if length text == digits then whole limit text else
 abbrev pub greatest_price : ℕ
 greatest_price = 10 ^ 15
 
--- a price in units of 10^-8: digits, and optionally a point and 1 to 8 digits; above 0, at most the greatest
+-- what a whole part and so many decimals are worth, in units of 10^-8
 abbrev pub in_units : ℕ → ℕ → ℕ → ℕ
 in_units whole_part decimals places = whole_part * 10 ^ 8 + decimals * 10 ^ (8 - places)
 
+-- a price without decimals
 abbrev pub whole_price : List ℕ → Option ℕ
 whole_price whole_part = option_map (λ n. n * 10 ^ 8) (whole 10000000 whole_part)
 
+-- a price with 1 to 8 decimals
 abbrev pub decimal_price : List ℕ → List ℕ → Option ℕ
 decimal_price whole_part decimals =
     given (whole 10000000 whole_part) (λ n. given (whole 99999999 decimals) (λ k. provided (nat_le (length decimals) 8) (in_units n k (length decimals))))
 
+-- the parts of a price round its point, if it has one
 abbrev pub price_of_parts : List (List ℕ) → Option ℕ
 price_of_parts [] = None
 price_of_parts (whole_part ∷ []) = whole_price whole_part
 price_of_parts (whole_part ∷ decimals ∷ []) = decimal_price whole_part decimals
 price_of_parts (whole_part ∷ decimals ∷ more ∷ most) = None
 
+-- a price in units of 10^-8: digits, and optionally a point and 1 to 8 digits; above 0, at most the greatest
 abbrev pub price : List ℕ → Option ℕ
 price text = given (price_of_parts (parts 46 text)) (λ units. provided (nat_lt 0 units && nat_le units greatest_price) units)
 
@@ -86,9 +90,11 @@ day_of y m d = given (whole_of 4 2999 y) (λ year. given (whole_of 2 12 m) (λ m
 abbrev pub clock_of : List ℕ → List ℕ → List ℕ → Option ℕ
 clock_of h m s = given (whole_of 2 23 h) (λ hours. given (whole_of 2 59 m) (λ minutes. given (whole_of 2 0 s) (λ none. Some (hours * 3600 + minutes * 60))))
 
+-- the day number of the parts of a date round its points
 abbrev pub date_of : List ℕ → Option ℤ
 date_of date = given (three (parts 46 date)) (λ p. day_of p.0 p.1 p.2)
 
+-- the seconds of the parts of a time round its colons
 abbrev pub time_of : List ℕ → Option ℕ
 time_of time = given (three (parts 58 time)) (λ p. clock_of p.0 p.1 p.2)
 
@@ -100,6 +106,7 @@ moment date time = given (date_of date) (λ day. given (time_of time) (λ second
 abbrev pub is_range : ℕ → ℕ → ℕ → ℕ → Bool
 is_range o h l c = nat_le o h && nat_le c h && nat_le l o && nat_le l c && nat_le l h
 
+-- the four prices of a bar
 abbrev pub prices_of : List ℕ → List ℕ → List ℕ → List ℕ → Option Prices
 prices_of o h l c =
     given (price o) (λ opens. given (price h) (λ highest. given (price l) (λ lowest. given (price c) (λ closes.
@@ -140,7 +147,7 @@ ended [] = None
 ended (last ∷ []) = provided (length last == 0) []
 ended (line ∷ next ∷ more) = option_map (λ lines. line ∷ lines) (ended (next ∷ more))
 
--- the bars of the lines that are not empty
+-- the bars of the lines that are not empty, each of which is a row
 abbrev pub rows : List (List ℕ) → Option (List Bar)
 rows [] = Some []
 rows (line ∷ lines) = if length line == 0 then rows lines else given (row line) (λ bar. option_map (λ bars. bar ∷ bars) (rows lines))
@@ -164,10 +171,11 @@ pub record IsInOrder (bars : List Bar) : Type 0 where
 abbrev pub in_order : List Bar → Option (List Bar)
 in_order bars = provided (is_rising bars && nat_le (length bars) 4000000) bars
 
--- <DATE>,<TIME>,<OPEN>,<HIGH>,<LOW>,<CLOSE>,<TICKVOL>,<VOL>,<SPREAD>
+-- the first line of the file
 abbrev pub header : List ℕ
 header = codes "<DATE>,<TIME>,<OPEN>,<HIGH>,<LOW>,<CLOSE>,<TICKVOL>,<VOL>,<SPREAD>"
 
+-- the bars of the lines after the header
 abbrev pub bars_of_lines : List (List ℕ) → Option (List Bar)
 bars_of_lines [] = None
 bars_of_lines (first ∷ lines) = if bytes_eq first header then given (rows lines) in_order else None
@@ -193,10 +201,11 @@ pub record IsDayNumber (day : ℤ) : Type 0 where
   pub from : pos 0 ≤ℤ day
   pub to : day ≤ℤ pos 376199
 
--- a moment from 1970.01.01 00:00:00 to 2999.12.31 23:59:00, in seconds since the first
+-- the beginning of a minute from 1970.01.01 00:00 to 2999.12.31 23:59, in seconds since the first
 pub record IsMoment (seconds : ℤ) : Type 0 where
   pub from : pos 0 ≤ℤ seconds
   pub to : seconds ≤ℤ pos 32503679940
+  pub minute : unsigned_abs seconds % 60 ≡ 0
 
 -- the ranges that a bar of a file keeps
 pub record IsBar (bar : Bar) : Type 0 where

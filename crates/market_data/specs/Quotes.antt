@@ -25,7 +25,7 @@ quote digits bar seconds price loud = record {
 abbrev pub rises : Bar → Bool
 rises bar = int_le bar.o bar.c
 
--- the four quotes of a bar: open, the two extremes, the nearer one to a rise or fall first, and close; only the first is loud
+-- the four quotes of a bar: open; low then high where it rises, else high then low; close; only the first is loud
 abbrev pub quotes_of : ℕ → Bar → List Quote
 quotes_of digits bar =
     quote digits bar 0 bar.o true
@@ -46,3 +46,9 @@ pub record IsQuote (q : Quote) : Type 0 where
   pub bid : IsPrice q.bid
   pub ask_from : q.bid ≤ℤ q.ask
   pub ask_to : q.ask ≤ℤ (q.bid +ℤ pos (10 ^ 14))
+
+-- the times of quotes do not fall
+abbrev pub AreTimed : List Quote → Type 0
+AreTimed [] = Unit {0}
+AreTimed (q ∷ []) = Unit {0}
+AreTimed (q ∷ next ∷ more) = (q.time_ms ≤ℤ next.time_ms) × AreTimed (next ∷ more)

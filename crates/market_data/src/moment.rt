@@ -1,5 +1,5 @@
 //! Dates and times as a price file writes them.
-ghost use Rattle.std.specs.Prelude.{◌≡◌, ◌≤◌, Some, None, MatchOption, IfSome};
+ghost use Rattle.std.specs.Prelude.{◌≡◌, ◌≤◌, ◌%◌, Some, None, MatchOption, IfSome};
 ghost use Rattle.market_data.specs.BarsFile.{parts, three, day_number, day_of, clock_of, date_of, time_of, moment, IsDayNumber, IsMoment};
 
 use crate::numbers::whole_of;
@@ -54,6 +54,7 @@ fn day_of(year: &[u8], month: &[u8], day: &[u8]) -> Option<i64>
 fn clock_of(hours: &[u8], minutes: &[u8], seconds: &[u8]) -> Option<u64>
     ensures value { result ≡ clock_of hours.now minutes.now seconds.now }
     ensures within { IfSome result (λ s. s ≤ 86340) }
+    ensures minute { IfSome result (λ s. s % 60 ≡ 0) }
 {
     let hours = whole_of(2, 23, hours)?;
     let minutes = whole_of(2, 59, minutes)?;
@@ -74,6 +75,7 @@ fn date_of(date: &[u8]) -> Option<i64>
 fn time_of(time: &[u8]) -> Option<u64>
     ensures value { result ≡ time_of time.now }
     ensures within { IfSome result (λ s. s ≤ 86340) }
+    ensures minute { IfSome result (λ s. s % 60 ≡ 0) }
 {
     let (hours, minutes, seconds) = three(time, b':')?;
     clock_of(hours, minutes, seconds)

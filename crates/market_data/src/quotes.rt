@@ -1,8 +1,8 @@
 //! The quotes that bars give at opening prices.
-ghost use Rattle.std.specs.Prelude.{◌≡◌, ◌≤◌, ◌*◌, pos, ◌+ℤ◌, ◌*ℤ◌, ◌≤ℤ◌, [], ◌∷◌, MatchOption, IfSome, All, ◌^◌};
-ghost use Rattle.market_data.specs.Quotes.{point, quote, rises, opening_quotes, IsQuote};
+ghost use Rattle.std.specs.Prelude.{◌≡◌, true, ◌≤◌, ◌*◌, pos, ◌+ℤ◌, ◌*ℤ◌, ◌≤ℤ◌, [], ◌∷◌, MatchOption, IfSome, All, ◌^◌};
+ghost use Rattle.market_data.specs.Quotes.{point, quote, rises, opening_quotes, IsQuote, AreTimed};
 ghost use Rattle.market_data.specs.Stages.{price_at, seconds_at, is_loud};
-ghost use Rattle.market_data.specs.BarsFile.{IsBar, IsPrice};
+ghost use Rattle.market_data.specs.BarsFile.{IsBar, IsPrice, is_rising};
 
 use crate::{Bar, BarList, Quote};
 use fx8::Fix8;
@@ -155,10 +155,12 @@ impl<'a> Model for Quotes<'a> {
 
 impl<'a> Quotes<'a> {
     /// All the quotes of bars of a symbol whose prices show so many digits.
+    #[tactic(auto, using(crate::proofs::Times::quotes_timed))]
     pub fn start(bars: &'a BarList, digits: u8) -> Quotes<'a>
         requires bars { All IsBar bars.now }
         requires digits { digits ≤ 8 }
-        ensures { result ≡ opening_quotes digits bars.now }
+        ensures value { result ≡ opening_quotes digits bars.now }
+        ensures timed { is_rising bars.now ≡ true → AreTimed result }
     {
         Quotes {
             bars: bars.as_slice(),
