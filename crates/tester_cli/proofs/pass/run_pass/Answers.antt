@@ -8,10 +8,10 @@ use Rattle.tester_cli.proofs.pass.run_pass.Goals as goal
 pub loop-quote-init : goal.loop-quote-init
 loop-quote-init c = record {
   goes_on = λ checked follows result passes.
-      starts_here checked (opening_quotes 5 c.args.bars.now) _ _ _ result c.start-stream.ensures c.new-machine.ensures c.new-world.ensures passes;
-  count = omega (arith, ap length c.start-stream.ensures);
+      starts_here checked (opening_quotes 5 c.args.bars.now) _ _ _ result c.start-stream.ensures.value c.new-machine.ensures c.new-world.ensures passes;
+  count = omega (arith, ap length c.start-stream.ensures.value);
   loud_count = omega arith;
-  in_time = subst AreLoudTimes (sym c.start-stream.ensures) (loud_times c.args.bars.now c.requires.bars);
+  in_time = subst AreLoudTimes (sym c.start-stream.ensures.value) (loud_times c.args.bars.now c.requires.bars);
   prints = nothing_printed c.new-world.result c.new-world.ensures;
 }
 
