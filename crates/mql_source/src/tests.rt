@@ -224,3 +224,30 @@ fn reads_loops_and_conditions(rt: HostRuntime) -> Result<(), Fail> {
     assert!(rt; matches!(then.as_slice(), [Statement::Evaluate(5, _)]));
     Ok(())
 }
+
+/// A front, a middle so many times, and an end.
+fn repeated(
+    alloc: Global,
+    front: &[u8],
+    middle: &[u8],
+    times: u32,
+    end: &[u8],
+) -> Result<Vec<u8>, AllocError> {
+    let mut text = front.to_vec(alloc)?;
+    for _ in 0..times {
+        text.extend_from_slice(middle)?;
+    }
+    text.extend_from_slice(end)?;
+    Ok(text)
+}
+
+#[test]
+fn takes_the_deepest_trees(rt: HostRuntime) -> Result<(), Fail> {
+    let signs = repeated(rt.alloc(), b"void OnTick(){int n=", b"- ", 2036, b"1;}")?;
+    assert!(rt; read_source(rt.alloc(), &signs)?.is_some());
+    let tests = repeated(rt.alloc(), b"void OnTick(){", b"if(1<2)", 582, b";}")?;
+    assert!(rt; read_source(rt.alloc(), &tests)?.is_some());
+    let sum = repeated(rt.alloc(), b"void OnTick(){int n=1", b"+1", 2036, b";}")?;
+    assert!(rt; read_source(rt.alloc(), &sum)?.is_some());
+    Ok(())
+}
