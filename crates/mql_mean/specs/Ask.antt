@@ -28,6 +28,7 @@ answered native c [] n w = End Stopped n (called c [] w)
 answered native c (Replied reply ∷ answers) n w = replied (gives native reply) reply c answers n w
 answered native c (Refused kind ∷ answers) n w = End (Failed kind (line_in w.store)) n (called c answers w)
 
+-- a call whose arguments are taken, or not
 abbrev pub asked : Bool → Native → List Value → Act Value
 asked true native args n w = answered native (call_of native args) w.answers n w
 asked false native args n w = End Stuck n w

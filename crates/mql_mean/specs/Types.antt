@@ -78,14 +78,17 @@ module _ (locals : List IntKind) where
     TypedStatements end_of-Statement = Unit {0}
     TypedStatements (more_of-Statement s rest) = TypedStatement s × TypedStatements rest
 
+  -- each statement of a body is typed
   abbrev pub TypedBody : List Statement → Type 0
   TypedBody [] = Unit {0}
   TypedBody (s ∷ rest) = TypedStatement s × TypedBody rest
 
+-- each function is typed
 abbrev pub TypedFunctions : List Function → Type 0
 TypedFunctions [] = Unit {0}
 TypedFunctions (f ∷ fs) = TypedBody f.locals f.body × TypedFunctions fs
 
+-- a number that is there names a function
 abbrev pub Names : List Function → Option ℕ → Type 0
 Names functions None = Unit {0}
 Names functions (Some k) = k < length functions
