@@ -1,5 +1,5 @@
 -- One end for each run, and the main theorem.
-use Rattle.std.proofs.Common.{◌≡◌, ◌↔◌, ℕ, ℤ, zero, suc, Bool, List, [], ◌∷◌, ◌++◌, length, Option, Some, None, refl, sym, ap, ◌∙◌, subst, append-nil}
+use Rattle.std.proofs.Common.{◌≡◌, ℕ, ℤ, zero, suc, List, [], ◌∷◌, length, Option, Some, None, refl, sym, ap, ◌∙◌, subst, append-nil}
 use Rattle.std.specs.Prelude.{slice_get}
 use Rattle.mql_mean.specs.declared.value.Value.{Value}
 use Rattle.mql_mean.specs.declared.host.HostCall.{HostCall}
@@ -8,18 +8,16 @@ use Rattle.mql_mean.specs.declared.tree.Entry.{Entry}
 use Rattle.mql_mean.specs.declared.tree.Function.{Function}
 use Rattle.mql_mean.specs.declared.tree.Checked.{Checked}
 use Rattle.mql_mean.specs.Answer.{Answer}
-use Rattle.mql_mean.specs.World.{Ended, Returned, World, world, Res, Go, End, lift}
-use Rattle.mql_mean.specs.Store.{enter}
+use Rattle.mql_mean.specs.World.{Ended, Returned, World, world, Res, Go, End}
 use Rattle.mql_mean.specs.Means.{Outcome, outcome, means, calls, event}
 use Rattle.mql_mean.specs.Types.{Types, TypedBody, TypedFunctions}
 use Rattle.stack_vm.specs.declared.code.Code.{Code}
 use Rattle.stack_vm.specs.declared.code.FunctionCode.{FunctionCode}
-use Rattle.stack_vm.specs.declared.code.Instruction.{Instruction}
 use Rattle.stack_vm.specs.declared.machine.End.{End as Over'}
 use Rattle.stack_vm.specs.Machine as m
 use Rattle.stack_vm.specs.Machine.{On, Halt, land, iter, advance, Comes, then_some, starts, starts_at, entry_of, begins}
-use Rattle.stack_vm.specs.Steps.{as_ended, over, Ends}
-use Rattle.stack_vm.specs.Valid.{is_some, has_entry}
+use Rattle.stack_vm.specs.Steps.{as_ended, Ends}
+use Rattle.stack_vm.specs.Valid.{is_some}
 use Rattle.mql_lower.specs.Stands.{HasOwn, HoldsIn, LabelOwn, CodeFor, EachFor}
 use Rattle.stack_vm.specs.declared.code.Label.{Label}
 use Rattle.mql_lower.specs.Draft.{all_functions, Compiled}

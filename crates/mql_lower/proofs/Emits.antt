@@ -1,5 +1,5 @@
 -- Code that the lowering writes.
-use Rattle.std.proofs.Common.{◌≡◌, ℕ, ℤ, zero, suc, ◌+◌, ◌<◌, ◌≤◌, Bool, true, false, List, [], ◌∷◌, ◌++◌, length, Option, Some, None, Result, Ok, Err, refl, sym, ap, ◌∙◌, subst, arith, length-append}
+use Rattle.std.proofs.Common.{◌≡◌, ℕ, ℤ, suc, Bool, true, false, List, [], ◌∷◌, ◌++◌, length, Option, Some, None, Result, Ok, Err, refl, sym, ap, ◌∙◌, subst, arith, length-append}
 use Rattle.std.specs.Prelude.{slice_get, OnOk}
 use Rattle.std.proofs.Math.Seq.{get_or-append_seam}
 use Rattle.std.proofs.lemmas.List.{get_or_append_left}
@@ -21,7 +21,7 @@ use Rattle.stack_vm.specs.declared.code.Constant.TheVariants as constant
 use Rattle.stack_vm.specs.declared.code.Instruction.{Instruction}
 use Rattle.stack_vm.specs.declared.code.Instruction.TheVariants as op
 use Rattle.stack_vm.specs.declared.code.Effect.TheVariants as ef
-use Rattle.stack_vm.specs.Machine.{then_some, constant_value, constant_of}
+use Rattle.stack_vm.specs.Machine.{then_some, constant_value}
 use Rattle.mql_lower.specs.declared.draft.Draft.{Draft}
 use Rattle.mql_lower.specs.Stands.{Span, ◌▷◌, WithLabel, Nothing, Here, One, Constant as ConstantAt, ExpressionAt, RowAt, LetGo, StatementAt, StatementsAt, BodyAt}
 use Rattle.mql_lower.specs.Draft.{Has, Holds, Labelled, expression_in, arguments_in, let_go_in, statement_in, body_in, Keeps, Later, Grown, Emits, Adds, NewText, NewConstant}

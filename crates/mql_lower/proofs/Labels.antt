@@ -1,20 +1,19 @@
 -- Labels that the lowering sets.
-use Rattle.std.proofs.Common.{◌≡◌, ◌≢◌, ℕ, zero, suc, take, get_or, ◌+◌, ◌<◌, ◌≤◌, List, [], ◌∷◌, ◌++◌, length, Option, Some, None, Result, Ok, Err, refl, sym, ap, ◌∙◌, subst, arith, length-append}
+use Rattle.std.proofs.Common.{◌≡◌, ◌≢◌, ℕ, zero, suc, take, get_or, ◌+◌, ◌<◌, List, [], ◌∷◌, ◌++◌, length, Option, Some, None, Result, refl, sym, ap, ◌∙◌, subst, arith}
 use Rattle.std.specs.Prelude.{slice_get, slice_set, OnOk}
 use Rattle.std.proofs.lemmas.List.{take_more, get_or-set_same, get_or-set_other, length-set}
 use Rattle.std.proofs.lemmas.Option.{slice_get-get_or, slice_get_within, get_or_from_slice_get}
 use Rattle.mql_mean.specs.declared.tree.Expression.{Expression}
 use Rattle.mql_mean.specs.declared.tree.Statement.{Statement}
 use Rattle.mql_mean.specs.declared.tree.Statement.TheVariants as y
-use Rattle.stack_vm.specs.declared.code.Instruction.{Instruction}
 use Rattle.stack_vm.specs.declared.code.Instruction.TheVariants as op
 use Rattle.stack_vm.specs.declared.code.Effect.TheVariants as ef
 use Rattle.std.proofs.Common.{Box, Global}
 use Rattle.stack_vm.specs.declared.code.Label.{Label}
 use Rattle.mql_lower.specs.declared.draft.Draft.{Draft}
-use Rattle.mql_lower.specs.Stands.{Span, ◌▷◌, WithLabel, Here, One, ExpressionAt, StatementAt}
+use Rattle.mql_lower.specs.Stands.{Span, ◌▷◌, WithLabel, Here, One}
 use Rattle.mql_lower.specs.Draft.{Has, Holds, Labelled, expression_in, statement_in, Later, Grown, Emits, Adds, NewLabel, SetLabel, place_of, placed}
-use Rattle.mql_lower.proofs.Emits.{Mono, expression_mono, statement_mono, one_mono, one_map, here_map, seq_map, label_map, later_of, keeps_same, adds, seq, on_ok, slice_get_more, slice_get_seam}
+use Rattle.mql_lower.proofs.Emits.{Mono, expression_mono, statement_mono, one_mono, here_map, seq_map, label_map, keeps_same, adds, seq, on_ok, slice_get_more, slice_get_seam}
 
 pub set_same : {A : Type 0} (xs : List A) (i : ℕ) (y x : A) → slice_get xs i ≡ Some x → slice_get (slice_set xs i y) i ≡ Some y
 set_same xs i y x e =

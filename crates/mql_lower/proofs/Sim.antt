@@ -1,6 +1,5 @@
 -- The machine follows the program.
-use Rattle.std.proofs.Common.{◌≡◌, ℕ, ℤ, zero, suc, ◌+◌, ◌<◌, ◌≤◌, Bool, true, false, List, [], ◌∷◌, ◌++◌, length, Option, Some, None, refl, sym, ap, ◌∙◌, subst, arith, append-nil}
-use Rattle.std.specs.Prelude.{slice_get}
+use Rattle.std.proofs.Common.{◌≡◌, ℕ, zero, suc, ◌+◌, ◌≤◌, Bool, true, false, List, [], ◌∷◌, ◌++◌, length, Option, Some, refl, sym, ap, ◌∙◌, subst, arith, append-nil}
 use Rattle.mql_mean.specs.declared.value.Value.{Value}
 use Rattle.mql_mean.specs.declared.value.Value.TheVariants.{Num, Str}
 use Rattle.mql_mean.specs.declared.host.HostCall.{HostCall}
@@ -12,15 +11,14 @@ use Rattle.mql_mean.specs.declared.tree.Function.{Function}
 use Rattle.mql_mean.specs.Answer.{Answer, Replied, Refused}
 use Rattle.mql_mean.specs.Natives.{takes, gives, native_void}
 use Rattle.mql_mean.specs.Ask.{call_of, replied, answered, asked, ask}
-use Rattle.mql_mean.specs.World.{Ended, Returned, World, Out, Ok', Bad, Res, Go, End, Act, bind, lift, map_out, spend}
+use Rattle.mql_mean.specs.World.{Returned, World, Out, Ok', Bad, Res, Go, End, Act, bind, lift, map_out, spend}
 use Rattle.mql_mean.specs.Store.{with_some, enter, leave, set_line, read, write}
-use Rattle.mql_mean.specs.Apply.{arity, apply, truth_of, truth, result_kind}
+use Rattle.mql_mean.specs.Apply.{arity, apply, truth}
 use Rattle.fx8.specs.declared.int_kind.IntKind.{IntKind}
 use Rattle.mql_mean.specs.declared.tree.Operator.{Operator}
-use Rattle.mql_mean.specs.Means.{void_value, choose, turns, value_of, values_of, does, does_row, does_all, returns, calls}
+use Rattle.mql_mean.specs.Means.{void_value, choose, turns, value_of, values_of, does, does_row, does_all, calls}
 use Rattle.mql_mean.specs.Types.{Is, is_void, count, kind_of, Prints, Typed, TypedNumbers, TypedRow, TypedStatement, TypedStatements, TypedBody}
 use Rattle.stack_vm.specs.declared.code.Code.{Code}
-use Rattle.stack_vm.specs.declared.code.FunctionCode.{FunctionCode}
 use Rattle.stack_vm.specs.declared.code.Instruction.{Instruction}
 use Rattle.stack_vm.specs.declared.code.Instruction.TheVariants as op
 use Rattle.stack_vm.specs.declared.code.Effect.TheVariants as ef
@@ -28,7 +26,7 @@ use Rattle.stack_vm.specs.declared.state.Operand.{Operand}
 use Rattle.stack_vm.specs.declared.state.Operand.TheVariants.{Value as Val, Place as At}
 use Rattle.stack_vm.specs.Machine as m
 use Rattle.stack_vm.specs.Machine.{On, Halt, land, Taken, beside, take_values, effect, give, with_value, goes, branch, label_at, constant_of, native_on, fetch, act, advance, iter, Comes, starts}
-use Rattle.mql_lower.specs.Stands.{◌▷◌, WithLabel, Nothing, Here, One, Constant, ExpressionAt, RowAt, LetGo, StatementAt, StatementsAt, BodyAt, FunctionAt, HoldsIn}
+use Rattle.mql_lower.specs.Stands.{One, Constant, ExpressionAt, RowAt, LetGo, StatementAt, StatementsAt, BodyAt, FunctionAt, HoldsIn}
 
 -- steps do not grow past a bound
 abbrev Within : {A : Type 0} → ℕ → Res A → Type 0

@@ -1,12 +1,10 @@
 -- The code of a typed program is valid.
 use denote.Hole.Carrier.{out}
 use Rattle.fx8.specs.declared.int_kind.IntKind.{IntKind}
-use Rattle.fx8.specs.declared.int_kind.IntKind.TheVariants.{Int, Bool as BoolKind}
+use Rattle.fx8.specs.declared.int_kind.IntKind.TheVariants.{Bool as BoolKind}
 use Rattle.mql_mean.specs.Natives.{native_void, is_int}
 use Rattle.mql_mean.specs.Apply.{arity, result_kind}
-use Rattle.mql_mean.specs.declared.tree.Operator.{Operator}
-use Rattle.stack_vm.specs.declared.code.Label.{Label}
-use Rattle.std.proofs.Common.{◌≡◌, ℕ, ℤ, zero, suc, ◌+◌, ◌-◌, ◌<◌, ◌≤◌, Bool, true, false, List, [], ◌∷◌, ◌++◌, length, Option, Some, None, refl, sym, ap, ◌∙◌, subst, arith, add-one, length-append, ⊎_elim}
+use Rattle.std.proofs.Common.{◌≡◌, ℕ, ℤ, zero, suc, ◌+◌, ◌<◌, ◌≤◌, Bool, true, false, List, [], ◌∷◌, ◌++◌, length, Option, Some, None, refl, sym, ap, ◌∙◌, subst, arith, add-one, ⊎_elim}
 use Rattle.std.specs.Prelude.{slice_get}
 use Rattle.std.proofs.lemmas.Option.{slice_get_within}
 use Rattle.std.proofs.lemmas.Bool.{cases_lt}
@@ -31,8 +29,8 @@ use Rattle.stack_vm.specs.declared.code.Instruction.{Instruction}
 use Rattle.stack_vm.specs.declared.code.Instruction.TheVariants as op
 use Rattle.stack_vm.specs.declared.code.Effect.TheVariants as ef
 use Rattle.stack_vm.specs.Machine.{constant_of, constant_value, then_some, entry_of}
-use Rattle.stack_vm.specs.Valid.{Kind, Number as NumberKind, Text, Place, Other, kind_at, prints_kind, if_so, text_kind, constant_kind, after_const, after_local, after_read, after_number, after_write, after_apply, after_jump, after_unless, after_native, after, after_at, kinds_at, Target, SameKind, Suits, Leads, IsFine, ValidFunction, IsValid}
-use Rattle.mql_lower.specs.Stands.{◌▷◌, WithLabel, Nothing, Here, One, Constant as ConstantAt, ExpressionAt, RowAt, LetGo, StatementAt, StatementsAt, BodyAt, FunctionAt, HasOwn, HoldsIn, LabelOwn, CodeFor, EachFor}
+use Rattle.stack_vm.specs.Valid.{Kind, Number as NumberKind, Text, Place, Other, kind_at, if_so, text_kind, constant_kind, after_const, after_local, after_apply, after_native, after, after_at, kinds_at, Target, Leads, IsFine, ValidFunction, IsValid}
+use Rattle.mql_lower.specs.Stands.{◌▷◌, One, Constant as ConstantAt, ExpressionAt, RowAt, LetGo, StatementAt, StatementsAt, BodyAt, HasOwn, HoldsIn, LabelOwn, CodeFor, EachFor}
 use Rattle.mql_lower.specs.Draft.{entries, all_functions, Compiled}
 use Rattle.mql_lower.proofs.Emits.{then_is, slice_get_more}
 use Rattle.mql_lower.proofs.Whole.{each_length}

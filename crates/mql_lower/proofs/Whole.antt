@@ -1,5 +1,5 @@
 -- A whole program's code.
-use Rattle.std.proofs.Common.{◌≡◌, ℕ, zero, suc, ◌+◌, ◌<◌, ◌≤◌, List, [], ◌∷◌, ◌++◌, length, Option, Some, None, refl, sym, ap, ◌∙◌, subst, arith, length-append, append_assoc}
+use Rattle.std.proofs.Common.{◌≡◌, ℕ, suc, ◌+◌, List, [], ◌∷◌, ◌++◌, length, Some, refl, sym, ap, ◌∙◌, subst, length-append, append_assoc}
 use Rattle.std.specs.Prelude.{slice_get}
 use Rattle.mql_mean.specs.declared.value.Value.{Value}
 use Rattle.mql_mean.specs.declared.tree.Function.{Function}
@@ -11,12 +11,10 @@ use Rattle.stack_vm.specs.declared.code.Label.{Label}
 use Rattle.mql_lower.proofs.Labels.{placed_at}
 use Rattle.stack_vm.specs.declared.code.Instruction.{Instruction}
 use Rattle.stack_vm.specs.declared.code.Instruction.TheVariants as op
-use Rattle.stack_vm.specs.Machine.{constant_of}
 use Rattle.mql_lower.specs.declared.draft.Draft.{Draft}
-use Rattle.mql_lower.specs.Stands.{◌▷◌, One, BodyAt, FunctionAt, HasOwn, HoldsIn, LabelOwn, CodeFor, EachFor}
+use Rattle.mql_lower.specs.Stands.{FunctionAt, HasOwn, HoldsIn, LabelOwn, CodeFor, EachFor}
 use Rattle.mql_lower.specs.Draft.{Has, Holds, Labelled, body_in, placed, Keeps, Grown, Emits, Adds, NewText, Compiles, entries, with_entries, Compiled}
-use Rattle.mql_lower.specs.Draft.{all_functions}
-use Rattle.mql_lower.proofs.Emits.{seq_map, one_map, body_map, one_mono, body_mono, keeps_same, keeps_on, grown_on, adds, seq, text_grown, constant_keeps, slice_get_more, slice_get_seam}
+use Rattle.mql_lower.proofs.Emits.{seq_map, one_map, body_map, one_mono, body_mono, keeps_on, grown_on, adds, seq, text_grown, constant_keeps, slice_get_seam}
 
 pub function_map : (H H' : ℕ → Instruction → Type 0) (C C' : ℕ → Value → Type 0) (L L' : ℕ → ℕ → Type 0) → ((pc : ℕ) (i : Instruction) → H pc i → H' pc i) → ((k : ℕ) (v : Value) → C k v → C' k v) → ((k pc : ℕ) → L k pc → L' k pc) → (f : Function) (a b : ℕ) → FunctionAt H C L f a b → FunctionAt H' C' L' f a b
 function_map H H' C C' L L' h c l f a b s = seq_map a b (one_map H H' C C' L L' h c l op.Step) (λ a b. seq_map a b (body_map H H' C C' L L' h c l f.body) (one_map H H' C C' L L' h c l op.Return)) s

@@ -1,13 +1,12 @@
 -- The main theorem's statement.
-use Rattle.std.specs.Prelude.{◌≡◌, ◌↔◌, ℕ, ℤ, ◌+◌, Bool, List, [], ◌∷◌, ◌++◌, Option, Some, None, length}
-use Rattle.mql_mean.specs.declared.tree.Function.{Function}
+use Rattle.std.specs.Prelude.{◌≡◌, ◌↔◌, ℕ, ℤ, []}
 use Rattle.mql_mean.specs.declared.tree.Checked.{Checked}
 use Rattle.mql_mean.specs.declared.tree.Entry.{Entry}
 use Rattle.mql_mean.specs.declared.host.HostCall.{HostCall}
 use Rattle.mql_mean.specs.declared.store.Store.{Store}
 use Rattle.mql_mean.specs.Answer.{Answer}
-use Rattle.mql_mean.specs.World.{World, world, Ended}
-use Rattle.mql_mean.specs.Means.{Outcome, means, event, nothing}
+use Rattle.mql_mean.specs.World.{World, world}
+use Rattle.mql_mean.specs.Means.{Outcome, means, event}
 use Rattle.stack_vm.specs.declared.code.Code.{Code}
 use Rattle.stack_vm.specs.declared.machine.End.{End}
 use Rattle.stack_vm.specs.Machine.{Halt, Comes, begins}

@@ -1,13 +1,11 @@
 -- The code that stands for a part of a program.
-use Rattle.std.specs.Prelude.{◌≡◌, ℕ, zero, suc, ◌+◌, Bool, true, false, List, [], ◌∷◌, length, Option, Some, None, slice_get}
+use Rattle.std.specs.Prelude.{◌≡◌, ℕ, ◌+◌, Bool, true, false, List, [], ◌∷◌, length, Some, slice_get}
 use Rattle.mql_mean.specs.declared.value.Value.{Value}
 use Rattle.mql_mean.specs.declared.value.Value.TheVariants.{Num, Str}
 use Rattle.mql_mean.specs.declared.tree.Expression.{Expression, Text, Number, Local, Apply', Native', Row_of-Expression, end_of-Expression, more_of-Expression}
 use Rattle.mql_mean.specs.declared.tree.Statement.{Statement, Empty, Block', Evaluate, Assign, If', While', Row_of-Statement, end_of-Statement, more_of-Statement}
 use Rattle.mql_mean.specs.declared.tree.Function.{Function}
 use Rattle.mql_mean.specs.Types.{is_void, count}
-use Rattle.fx8.specs.declared.int_kind.IntKind.{IntKind}
-use Rattle.stack_vm.specs.declared.code.Label.{Label}
 use Rattle.stack_vm.specs.declared.code.Code.{Code}
 use Rattle.stack_vm.specs.declared.code.FunctionCode.{FunctionCode}
 use Rattle.stack_vm.specs.declared.code.Instruction.{Instruction}

@@ -1,5 +1,5 @@
 -- What the source's meaning and the machine do to the store.
-use Rattle.std.specs.Prelude.{◌≡◌, ℕ, pos, ◌+◌, ◌-◌, Bool, true, false, nat_lt, List, [], ◌∷◌, ◌++◌, length, take, Option, Some, None, slice_get, slice_set}
+use Rattle.std.specs.Prelude.{ℕ, pos, ◌-◌, Bool, true, false, nat_lt, List, [], ◌∷◌, ◌++◌, length, take, Option, Some, None, slice_get, slice_set}
 use Rattle.mql_mean.specs.declared.error.ErrorKind.{ErrorKind}
 use Rattle.mql_mean.specs.declared.error.ErrorKind.TheVariants.{StackOverflow}
 use Rattle.fx8.specs.declared.int_kind.IntKind.{IntKind}
@@ -7,7 +7,7 @@ use Rattle.mql_mean.specs.declared.value.Value.{Value}
 use Rattle.mql_mean.specs.declared.value.Value.TheVariants.{Num}
 use Rattle.mql_mean.specs.declared.store.Store.{Store}
 use Rattle.mql_mean.specs.declared.store.Frame.{Frame}
-use Rattle.mql_mean.specs.World.{Ended, Failed, Stuck, Out, Ok', Bad}
+use Rattle.mql_mean.specs.World.{Failed, Stuck, Out, Ok', Bad}
 
 -- the store with these frames
 abbrev pub frames : List Frame → Store

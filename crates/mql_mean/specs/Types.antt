@@ -1,5 +1,5 @@
 -- Which checked trees are typed (MQL5 Reference, Language Basics, Data Types).
-use Rattle.std.specs.Prelude.{◌≡◌, ℕ, suc, ◌<◌, Bool, true, false, List, [], ◌∷◌, length, Option, Some, None, slice_get}
+use Rattle.std.specs.Prelude.{◌≡◌, ℕ, suc, ◌<◌, Bool, false, List, [], ◌∷◌, length, Option, Some, None, slice_get}
 use Rattle.fx8.specs.declared.int_kind.IntKind.{IntKind}
 use Rattle.fx8.specs.declared.int_kind.IntKind.TheVariants.{Int, Bool as BoolKind}
 use Rattle.fx8.specs.Integers.{InRange}

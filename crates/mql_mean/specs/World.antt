@@ -1,5 +1,5 @@
 -- What a run changes, and how a part of it ends.
-use Rattle.std.specs.Prelude.{◌≡◌, ℕ, zero, suc, List, [], ◌∷◌}
+use Rattle.std.specs.Prelude.{ℕ, zero, suc, List}
 use Rattle.mql_mean.specs.declared.value.Value.{Value}
 use Rattle.mql_mean.specs.declared.error.ErrorKind.{ErrorKind}
 use Rattle.mql_mean.specs.declared.store.Store.{Store}

@@ -1,12 +1,12 @@
 -- What the machine does, instruction by instruction.
-use Rattle.std.specs.Prelude.{◌≡◌, ℕ, ℤ, zero, suc, ◌+◌, Bool, true, false, List, [], ◌∷◌, ◌++◌, Option, Some, None, slice_get}
+use Rattle.std.specs.Prelude.{◌≡◌, ℕ, ℤ, zero, suc, ◌+◌, Bool, true, false, List, [], ◌∷◌, Option, Some, None, slice_get}
 use Rattle.mql_mean.specs.declared.value.Value.{Value}
 use Rattle.mql_mean.specs.declared.value.Value.TheVariants.{Num, Str}
 use Rattle.mql_mean.specs.declared.store.Store.{Store}
 use Rattle.mql_mean.specs.declared.tree.Native.{Native}
 use Rattle.mql_mean.specs.declared.tree.Entry.{Entry}
 use Rattle.mql_mean.specs.declared.tree.Entry.TheVariants as entry
-use Rattle.mql_mean.specs.World.{Ended, Returned, Exhausted, Stuck, World, world, Out, Ok', Bad, Res, Go, End, lift, map_out}
+use Rattle.mql_mean.specs.World.{Ended, Returned, Exhausted, Stuck, World, Out, Ok', Bad, Res, Go, End, lift, map_out}
 use Rattle.mql_mean.specs.Store.{with_some, enter, leave, set_line, read, write}
 use Rattle.mql_mean.specs.Apply.{arity, apply, truth}
 use Rattle.mql_mean.specs.Ask.{ask}

@@ -1,5 +1,5 @@
 -- Valid code: it never misses an operand, and always comes to its end.
-use Rattle.std.specs.Prelude.{◌≡◌, ℕ, zero, suc, ◌+◌, ◌-◌, ◌*◌, ◌<◌, ◌≤◌, Bool, true, false, ◌&&◌, IsTrue, List, [], ◌∷◌, length, Option, Some, None, slice_get}
+use Rattle.std.specs.Prelude.{◌≡◌, ℕ, zero, suc, ◌+◌, ◌<◌, ◌≤◌, Bool, true, false, List, [], ◌∷◌, length, Option, Some, None, slice_get}
 use Rattle.mql_mean.specs.declared.value.Value.{Value, out-Value}
 use Rattle.mql_mean.specs.declared.value.Value.TheOpen.{Value-F}
 use Rattle.mql_mean.specs.declared.tree.Entry.{Entry}
@@ -23,7 +23,7 @@ use Rattle.stack_vm.specs.declared.code.Effect.{Effect}
 use Rattle.stack_vm.specs.declared.code.Effect.TheVariants as ef
 use Rattle.stack_vm.specs.declared.state.Operand.{Operand}
 use Rattle.stack_vm.specs.declared.state.Operand.TheVariants.{Value as Val, Place as At}
-use Rattle.stack_vm.specs.Machine.{Next, On, Halt, fetch, entry_of, then_some, constant_of}
+use Rattle.stack_vm.specs.Machine.{Next, On, Halt, entry_of, then_some}
 
 -- the kinds of operands: a number of a kind, a text, or the place of a local of a kind (own)
 pub data Kind : Type 0 where

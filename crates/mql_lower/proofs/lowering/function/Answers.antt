@@ -1,5 +1,3 @@
-use Rattle.std.proofs.Common.{◌∙◌, ap}
-use Rattle.mql_lower.specs.Draft.{placed}
 use Rattle.mql_lower.proofs.Whole.{compiles}
 use Rattle.mql_lower.proofs.lowering.function.Goals as goal
 
