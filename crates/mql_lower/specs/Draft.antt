@@ -17,28 +17,36 @@ use Rattle.mql_mean.specs.Types.{is_void}
 use Rattle.stack_vm.specs.declared.code.Entries.{Entries}
 use Rattle.mql_lower.specs.Stands.{Span, ◌▷◌, Nothing, ExpressionAt, StatementAt, LetGo, BodyAt, EachFor}
 
+-- an instruction stands at a place of a draft
 abbrev pub Has : Draft → ℕ → Instruction → Type 0
 Has d pc i = slice_get d.instructions pc ≡ Some i
 
+-- a constant of a draft has a value
 abbrev pub Holds : Draft → ℕ → Value → Type 0
 Holds d number v = constant_of d.code number ≡ Some v
 
+-- a label of a draft has a place
 abbrev pub Labelled : Draft → ℕ → ℕ → Type 0
 Labelled d label pc = slice_get d.labels label ≡ Some (Some pc)
 
+-- the code of an expression in a draft
 abbrev pub expression_in : Expression → Draft → Span
 expression_in e d = ExpressionAt (Has d) (Holds d) (Labelled d) e
 
+-- the code of arguments, from left to right
 abbrev pub arguments_in : List Expression → Draft → Span
 arguments_in [] d = Nothing
 arguments_in (e ∷ es) d = expression_in e d ▷ arguments_in es d
 
+-- the code that lets an expression's value go
 abbrev pub let_go_in : Expression → Draft → Span
 let_go_in e d = LetGo (Has d) (Holds d) (Labelled d) (is_void e)
 
+-- the code of a statement in a draft
 abbrev pub statement_in : Statement → Draft → Span
 statement_in s d = StatementAt (Has d) (Holds d) (Labelled d) s
 
+-- the code of statements in order
 abbrev pub body_in : List Statement → Draft → Span
 body_in ss d = BodyAt (Has d) (Holds d) (Labelled d) ss
 
@@ -94,6 +102,7 @@ abbrev pub place_of : Option ℕ → Label
 place_of None = record { place = 0 }
 place_of (Some pc) = record { place = pc }
 
+-- the labels of finished code, each with its place
 abbrev pub placed : List (Option ℕ) → List Label
 placed [] = []
 placed (o ∷ os) = place_of o ∷ placed os
@@ -109,9 +118,11 @@ pub record Compiles (f : Function) (old new : Code) : Type 0 where
 abbrev pub entries : Option ℕ → Option ℕ → Option ℕ → Entries
 entries start tick stop = record { start = start; init = None; tick = tick; trade = None; tester = None; deinit = None; stop = stop }
 
+-- code with no functions
 abbrev pub no_code : Code
 no_code = record { texts = []; constants = []; functions = []; entries = entries None None None }
 
+-- code with the entries of a program
 abbrev pub with_entries : Code → ℕ → Option ℕ → ℕ → Code
 with_entries code start tick stop = record code { entries = entries (Some start) tick (Some stop) }
 

@@ -35,6 +35,7 @@ pub record WithLabel (A : ℕ → Span) (pc pc' : ℕ) : Type 0 where
 
 -- over which instruction stands where, which constant has which value, and which label is where
 module _ (Has : ℕ → Instruction → Type 0) (Holds : ℕ → Value → Type 0) (Labels : ℕ → ℕ → Type 0) where
+  -- one instruction
   pub record One (i : Instruction) (pc pc' : ℕ) : Type 0 where
     pub at : Has pc i
     pub next : pc + 1 ≡ pc'
@@ -82,6 +83,7 @@ module _ (Has : ℕ → Instruction → Type 0) (Holds : ℕ → Value → Type 
     StatementsAt end_of-Statement = Nothing
     StatementsAt (more_of-Statement s rest) = StatementAt s ▷ StatementsAt rest
 
+  -- statements in order
   abbrev pub BodyAt : List Statement → Span
   BodyAt [] = Nothing
   BodyAt (s ∷ rest) = StatementAt s ▷ BodyAt rest
@@ -94,9 +96,11 @@ module _ (Has : ℕ → Instruction → Type 0) (Holds : ℕ → Value → Type 
 abbrev pub HasOwn : FunctionCode → ℕ → Instruction → Type 0
 HasOwn c pc i = slice_get c.instructions pc ≡ Some i
 
+-- a label of the function has a place
 abbrev pub LabelOwn : FunctionCode → ℕ → ℕ → Type 0
 LabelOwn c label pc = slice_get c.labels label ≡ Some (record { place = pc })
 
+-- a constant of the code has a value
 abbrev pub HoldsIn : Code → ℕ → Value → Type 0
 HoldsIn code number v = constant_of code number ≡ Some v
 

@@ -12,6 +12,7 @@ use mql_mean::{Checked, Expression, Function, Statement};
 use stack_vm::{Code, Constant, Effect, Entries, FunctionCode, Instruction, Program, Valid};
 use std::alloc::Global;
 
+/// Writes an expression.
 #[cycle(expressions)]
 #[tactic(auto, using(crate::proofs::Emits::text_emits, crate::proofs::Emits::number_emits, crate::proofs::Emits::local_emits, crate::proofs::Emits::apply_emits, crate::proofs::Emits::native_emits))]
 fn expression(alloc: Global, draft: &mut Draft, e: &Expression) -> Result<(), OutOfMemory>
@@ -43,6 +44,7 @@ fn expression(alloc: Global, draft: &mut Draft, e: &Expression) -> Result<(), Ou
     }
 }
 
+/// Writes arguments, from left to right.
 #[cycle(expressions)]
 fn arguments(alloc: Global, draft: &mut Draft, args: &[Expression]) -> Result<(), OutOfMemory>
     ensures { OnOk result (Emits (arguments_in args.now) draft.old draft.new) }
@@ -53,6 +55,7 @@ fn arguments(alloc: Global, draft: &mut Draft, args: &[Expression]) -> Result<()
     Ok(())
 }
 
+/// Writes a statement.
 #[cycle(statements)]
 #[tactic(auto, using(crate::proofs::Emits::empty_emits, crate::proofs::Emits::block_emits, crate::proofs::Emits::evaluate_emits, crate::proofs::Emits::assign_emits, crate::proofs::Labels::if_emits))]
 fn statement(alloc: Global, draft: &mut Draft, s: &Statement) -> Result<(), OutOfMemory>
@@ -99,8 +102,8 @@ fn statement(alloc: Global, draft: &mut Draft, s: &Statement) -> Result<(), OutO
     }
 }
 
-#[tactic(auto, using(crate::proofs::Emits::void_emits, crate::proofs::Emits::value_emits))]
 /// Lets the value of an expression go, if it gives one.
+#[tactic(auto, using(crate::proofs::Emits::void_emits, crate::proofs::Emits::value_emits))]
 fn let_go(draft: &mut Draft, e: &Expression) -> Result<(), OutOfMemory>
     ensures { OnOk result (Emits (let_go_in e.now) draft.old draft.new) }
 {
@@ -111,6 +114,7 @@ fn let_go(draft: &mut Draft, e: &Expression) -> Result<(), OutOfMemory>
     }
 }
 
+/// Writes statements in order.
 #[cycle(statements)]
 fn block(alloc: Global, draft: &mut Draft, body: &[Statement]) -> Result<(), OutOfMemory>
     ensures { OnOk result (Emits (body_in body.now) draft.old draft.new) }

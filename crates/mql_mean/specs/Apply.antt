@@ -1,5 +1,5 @@
 -- What an operator does to numbers (MQL5 Reference, Operations).
-use Rattle.std.specs.Prelude.{◌≡◌, ℕ, ℤ, pos, negsuc, zero, suc, Bool, true, false, List, [], ◌∷◌, Option, Some, None, Result, Ok, Err}
+use Rattle.std.specs.Prelude.{ℕ, ℤ, pos, negsuc, zero, suc, Bool, true, false, List, [], ◌∷◌, Option, Some, None, Result, Ok, Err}
 use Rattle.fx8.specs.declared.int_kind.IntKind.{IntKind}
 use Rattle.fx8.specs.declared.int_kind.IntKind.TheVariants.{Bool as BoolKind}
 use Rattle.fx8.specs.declared.int_operator.IntOperator.{IntOperator}
@@ -28,6 +28,7 @@ number_at (Value-F.Ptr p) = None
 number_at (Value-F.Arr vs) = None
 number_at (Value-F.Rec vs) = None
 
+-- the number of a value, if it has one
 abbrev pub number_of : Value → Option ℤ
 number_of v = number_at (out-Value v)
 
@@ -37,13 +38,16 @@ is_so (pos zero) = false
 is_so (pos (suc n)) = true
 is_so (negsuc n) = true
 
+-- whether a number that is there is not 0
 abbrev pub truth_at : Option ℤ → Option Bool
 truth_at None = None
 truth_at (Some x) = Some (is_so x)
 
+-- whether a value that is a condition holds
 abbrev pub truth_of : Value → Option Bool
 truth_of v = truth_at (number_of v)
 
+-- a condition, which leaves the store
 abbrev pub truth : Value → Store → Out Bool
 truth v store = with_some (truth_of v) (λ b. Ok' b store)
 
@@ -62,6 +66,7 @@ abbrev pub kind_if : Bool → IntKind → IntKind
 kind_if true k = BoolKind
 kind_if false k = k
 
+-- the kind of an operator's result
 abbrev pub result_kind : Operator → IntKind → IntKind
 result_kind (Unary o) k = k
 result_kind (Binary o) k = kind_if (compares o) k
@@ -76,11 +81,13 @@ gave k (Err fault.Overflow) store = fail FixedOverflow store
 abbrev pub on_numbers : IntOperator → IntKind → ℤ → ℤ → Store → Out Value
 on_numbers o k x y store = gave (kind_if (compares o) k) (computed o k (wrapped k x) (wrapped k y)) store
 
+-- goes on with one operand
 abbrev pub on_one : {B : Type 0} → List Value → (Value → Out B) → Out B
 on_one [] f = Bad Stuck
 on_one (x ∷ []) f = f x
 on_one (x ∷ y ∷ vs) f = Bad Stuck
 
+-- goes on with two operands
 abbrev pub on_two : {B : Type 0} → List Value → (Value → Value → Out B) → Out B
 on_two [] f = Bad Stuck
 on_two (x ∷ []) f = Bad Stuck

@@ -1,5 +1,5 @@
 -- What a call of a native function does.
-use Rattle.std.specs.Prelude.{◌≡◌, ℕ, Bool, true, false, List, [], ◌∷◌, ◌++◌}
+use Rattle.std.specs.Prelude.{Bool, true, false, List, [], ◌∷◌, ◌++◌}
 use Rattle.mql_mean.specs.declared.value.Value.{Value}
 use Rattle.mql_mean.specs.declared.tree.Native.{Native}
 use Rattle.mql_mean.specs.declared.host.HostCall.{HostCall}
@@ -7,7 +7,7 @@ use Rattle.mql_mean.specs.declared.host.Reply.{Reply}
 use Rattle.mql_mean.specs.Answer.{Answer, Replied, Refused}
 use Rattle.mql_mean.specs.Natives.{native_number, takes, gives}
 use Rattle.mql_mean.specs.Store.{line_in}
-use Rattle.mql_mean.specs.World.{Ended, Failed, Stopped, Stuck, World, world, Res, Go, End, Act}
+use Rattle.mql_mean.specs.World.{Failed, Stopped, Stuck, World, world, Go, End, Act}
 
 -- the call to the world that a native function makes
 abbrev pub call_of : Native → List Value → HostCall
@@ -28,6 +28,7 @@ answered native c [] n w = End Stopped n (called c [] w)
 answered native c (Replied reply ∷ answers) n w = replied (gives native reply) reply c answers n w
 answered native c (Refused kind ∷ answers) n w = End (Failed kind (line_in w.store)) n (called c answers w)
 
+-- a call whose arguments are taken, or not
 abbrev pub asked : Bool → Native → List Value → Act Value
 asked true native args n w = answered native (call_of native args) w.answers n w
 asked false native args n w = End Stuck n w

@@ -1,5 +1,5 @@
 -- What a program of the source language does (MQL5 Reference, Language Basics, Operators, Functions).
-use Rattle.std.specs.Prelude.{◌≡◌, ℕ, ℤ, pos, zero, suc, Bool, true, false, List, [], ◌∷◌, Option, Some, None, slice_get}
+use Rattle.std.specs.Prelude.{ℕ, ℤ, pos, zero, suc, Bool, true, false, List, [], ◌∷◌, Option, Some, None, slice_get}
 use Rattle.fx8.specs.declared.int_kind.IntKind.TheVariants.{Int}
 use Rattle.mql_mean.specs.declared.value.Value.{Value}
 use Rattle.mql_mean.specs.declared.value.Value.TheVariants.{Num, Str}
@@ -31,6 +31,7 @@ abbrev mutual
   values_of end_of-Expression n w = Go [] n w
   values_of (more_of-Expression e es) n w = bind (value_of e n w) (λ v n w. bind (values_of es n w) (λ vs n w. Go (v ∷ vs) n w))
 
+-- one of two parts
 abbrev pub choose : {A : Type 0} → Bool → Act A → Act A → Act A
 choose true a b n w = a n w
 choose false a b n w = b n w
@@ -96,6 +97,7 @@ pub record Outcome : Type 0 where
   pub left : ℕ
   pub world : World
 
+-- the outcome of a result
 abbrev pub outcome : Res Value → Outcome
 outcome (Go v n w) = record { ended = Returned v; left = n; world = w }
 outcome (End e n w) = record { ended = e; left = n; world = w }

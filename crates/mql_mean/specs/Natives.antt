@@ -30,9 +30,11 @@ prints_at (Value-F.Ptr p) = false
 prints_at (Value-F.Arr vs) = false
 prints_at (Value-F.Rec vs) = false
 
+-- a value can be printed
 abbrev pub prints : Value → Bool
 prints v = prints_at (out-Value v)
 
+-- each of the values can be printed
 abbrev pub all_print : List Value → Bool
 all_print [] = true
 all_print (v ∷ vs) = prints v && all_print vs
@@ -47,6 +49,7 @@ is_zero (pos zero) = true
 is_zero (pos (suc n)) = false
 is_zero (negsuc n) = false
 
+-- a value is the number 0 of int
 abbrev pub is_void_at : Value-F Value → Bool
 is_void_at (Value-F.Num k x) = is_int k && is_zero x
 is_void_at (Value-F.Dbl x) = false
@@ -55,9 +58,11 @@ is_void_at (Value-F.Ptr p) = false
 is_void_at (Value-F.Arr vs) = false
 is_void_at (Value-F.Rec vs) = false
 
+-- a value stands for that of a void function
 abbrev pub is_void : Value → Bool
 is_void v = is_void_at (out-Value v)
 
+-- there are no values
 abbrev pub none_of : List Value → Bool
 none_of [] = true
 none_of (v ∷ vs) = false

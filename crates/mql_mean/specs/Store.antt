@@ -1,5 +1,5 @@
 -- What the source's meaning and the machine do to the store.
-use Rattle.std.specs.Prelude.{◌≡◌, ℕ, pos, ◌+◌, ◌-◌, Bool, true, false, nat_lt, List, [], ◌∷◌, ◌++◌, length, take, Option, Some, None, slice_get, slice_set}
+use Rattle.std.specs.Prelude.{ℕ, pos, ◌-◌, Bool, true, false, nat_lt, List, [], ◌∷◌, ◌++◌, length, take, Option, Some, None, slice_get, slice_set}
 use Rattle.mql_mean.specs.declared.error.ErrorKind.{ErrorKind}
 use Rattle.mql_mean.specs.declared.error.ErrorKind.TheVariants.{StackOverflow}
 use Rattle.fx8.specs.declared.int_kind.IntKind.{IntKind}
@@ -7,8 +7,9 @@ use Rattle.mql_mean.specs.declared.value.Value.{Value}
 use Rattle.mql_mean.specs.declared.value.Value.TheVariants.{Num}
 use Rattle.mql_mean.specs.declared.store.Store.{Store}
 use Rattle.mql_mean.specs.declared.store.Frame.{Frame}
-use Rattle.mql_mean.specs.World.{Ended, Failed, Stuck, Out, Ok', Bad}
+use Rattle.mql_mean.specs.World.{Failed, Stuck, Out, Ok', Bad}
 
+-- the store with these frames
 abbrev pub frames : List Frame → Store
 frames fs = record { frames = fs }
 
@@ -20,6 +21,7 @@ opening = frames []
 abbrev pub top : Store → Option Frame
 top store = slice_get store.frames (length store.frames - 1)
 
+-- the line of a frame, and 0 where there is none
 abbrev pub line_of : Option Frame → ℕ
 line_of None = 0
 line_of (Some f) = f.line
@@ -46,9 +48,11 @@ abbrev pub zeros : List IntKind → List Value
 zeros [] = []
 zeros (k ∷ ks) = Num k (pos 0) ∷ zeros ks
 
+-- a call's frame at its beginning
 abbrev pub new_frame : List IntKind → Frame
 new_frame locals = record { locals = zeros locals; line = 0 }
 
+-- a frame more, where there is room
 abbrev pub entered : Bool → List IntKind → Store → Out (Unit {0})
 entered true locals store = Ok' tt (frames (store.frames ++ new_frame locals ∷ []))
 entered false locals store = fail StackOverflow store
@@ -61,6 +65,7 @@ enter locals store = entered (nat_lt (length store.frames) most_frames) locals s
 abbrev pub leave : Store → Store
 leave store = frames (take (length store.frames - 1) store.frames)
 
+-- a frame with another line
 abbrev pub with_line : ℕ → Frame → Frame
 with_line line f = record f { line = line }
 
@@ -76,6 +81,7 @@ set_line line store = with_some (top store) (λ f. Ok' tt (put_top store (with_l
 abbrev pub read : ℕ → Store → Out Value
 read local store = with_some (top store) (λ f. with_some (slice_get f.locals local) (λ v. Ok' v store))
 
+-- a frame with another value of a local
 abbrev pub with_local : ℕ → Value → Frame → Frame
 with_local local v f = record f { locals = slice_set f.locals local v }
 

@@ -1,5 +1,5 @@
 -- Which checked trees are typed (MQL5 Reference, Language Basics, Data Types).
-use Rattle.std.specs.Prelude.{◌≡◌, ℕ, suc, ◌<◌, Bool, true, false, List, [], ◌∷◌, length, Option, Some, None, slice_get}
+use Rattle.std.specs.Prelude.{◌≡◌, ℕ, suc, ◌<◌, Bool, false, List, [], ◌∷◌, length, Option, Some, None, slice_get}
 use Rattle.fx8.specs.declared.int_kind.IntKind.{IntKind}
 use Rattle.fx8.specs.declared.int_kind.IntKind.TheVariants.{Int, Bool as BoolKind}
 use Rattle.fx8.specs.Integers.{InRange}
@@ -78,14 +78,17 @@ module _ (locals : List IntKind) where
     TypedStatements end_of-Statement = Unit {0}
     TypedStatements (more_of-Statement s rest) = TypedStatement s × TypedStatements rest
 
+  -- each statement of a body is typed
   abbrev pub TypedBody : List Statement → Type 0
   TypedBody [] = Unit {0}
   TypedBody (s ∷ rest) = TypedStatement s × TypedBody rest
 
+-- each function is typed
 abbrev pub TypedFunctions : List Function → Type 0
 TypedFunctions [] = Unit {0}
 TypedFunctions (f ∷ fs) = TypedBody f.locals f.body × TypedFunctions fs
 
+-- a number that is there names a function
 abbrev pub Names : List Function → Option ℕ → Type 0
 Names functions None = Unit {0}
 Names functions (Some k) = k < length functions

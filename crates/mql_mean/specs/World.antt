@@ -1,5 +1,5 @@
 -- What a run changes, and how a part of it ends.
-use Rattle.std.specs.Prelude.{◌≡◌, ℕ, zero, suc, List, [], ◌∷◌}
+use Rattle.std.specs.Prelude.{ℕ, zero, suc, List}
 use Rattle.mql_mean.specs.declared.value.Value.{Value}
 use Rattle.mql_mean.specs.declared.error.ErrorKind.{ErrorKind}
 use Rattle.mql_mean.specs.declared.store.Store.{Store}
@@ -21,6 +21,7 @@ pub record World : Type 0 where
   pub calls : List HostCall
   pub answers : List Answer
 
+-- a world of these
 abbrev pub world : Store → List HostCall → List Answer → World
 world store calls answers = record { store = store; calls = calls; answers = answers }
 
@@ -48,6 +49,7 @@ abbrev pub lift : {A : Type 0} → Out A → Act A
 lift (Ok' a store) n w = Go a n (world store w.calls w.answers)
 lift (Bad e) n w = End e n w
 
+-- what a primitive gives, changed
 abbrev pub map_out : {A B : Type 0} → (A → B) → Out A → Out B
 map_out f (Ok' a store) = Ok' (f a) store
 map_out f (Bad e) = Bad e

@@ -1,5 +1,5 @@
 -- The beginning of a run.
-use Rattle.std.proofs.Common.{◌≡◌, ℕ, ℤ, zero, suc, ◌+◌, ◌-◌, ◌<◌, Bool, true, false, List, [], ◌∷◌, ◌++◌, length, Option, Some, None, Result, Ok, Err, refl, sym, ap, ◌∙◌, subst, arith, length-append}
+use Rattle.std.proofs.Common.{◌≡◌, ℕ, ℤ, ◌-◌, Bool, true, false, List, [], ◌∷◌, ◌++◌, length, Option, Some, None, Result, Ok, Err, refl, sym, ap, ◌∙◌, subst, arith, length-append}
 use Rattle.std.specs.Prelude.{slice_get, nat_lt, IfOk}
 use Rattle.fx8.specs.declared.out_of_memory.OutOfMemory.{OutOfMemory}
 use Rattle.mql_mean.specs.declared.host.HostCall.{HostCall}
@@ -7,14 +7,13 @@ use Rattle.mql_mean.specs.declared.store.Store.{Store}
 use Rattle.mql_mean.specs.declared.tree.Entry.{Entry}
 use Rattle.mql_mean.specs.Answer.{Answer}
 use Rattle.mql_mean.specs.Store.{enter, entered, most_frames, new_frame, zeros, top, frames}
-use Rattle.mql_mean.specs.World.{Ended, Returned, Failed, Exhausted, Stopped, Stuck, World, world, Out, Ok', Bad, lift}
+use Rattle.mql_mean.specs.World.{Returned, Failed, Exhausted, Stopped, Stuck, world, Out, Ok', Bad, lift}
 use Rattle.stack_vm.specs.declared.code.Code.{Code}
 use Rattle.stack_vm.specs.declared.code.FunctionCode.{FunctionCode}
 use Rattle.stack_vm.specs.declared.machine.End.{End}
 use Rattle.stack_vm.specs.declared.state.Operand.{Operand}
-use Rattle.stack_vm.specs.declared.state.State.{State}
-use Rattle.stack_vm.specs.Machine.{Next, On, Halt, land, starts, starts_at, entry_of, begins}
-use Rattle.stack_vm.specs.Steps.{on, over, as_ended, Run, Ends}
+use Rattle.stack_vm.specs.Machine.{On, land, starts, starts_at, entry_of, begins}
+use Rattle.stack_vm.specs.Steps.{over, as_ended, Run, Ends}
 use Rattle.stack_vm.specs.Valid.{IsValid, Fits, OfKinds, InForce}
 use Rattle.fx8.specs.declared.int_kind.IntKind.{IntKind}
 use Rattle.mql_mean.specs.declared.value.Value.{out-Value}

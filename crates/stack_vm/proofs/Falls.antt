@@ -7,18 +7,17 @@ use Rattle.std.proofs.lemmas.Bool.{cases_lt}
 use Rattle.mql_mean.specs.declared.value.Value.{Value}
 use Rattle.mql_mean.specs.declared.host.HostCall.{HostCall}
 use Rattle.mql_mean.specs.declared.host.Reply.{Reply}
-use Rattle.mql_mean.specs.declared.tree.Native.{Native}
 use Rattle.mql_mean.specs.Answer.{Answer, Replied, Refused}
 use Rattle.mql_mean.specs.Natives.{takes, gives, native_void}
 use Rattle.mql_mean.specs.Ask.{call_of, called, asked, answered, replied}
-use Rattle.mql_mean.specs.World.{World, world, Out, Ok', Bad, Res, Go, End, lift, map_out}
+use Rattle.mql_mean.specs.World.{World, Out, Ok', Bad, lift, map_out}
 use Rattle.stack_vm.specs.declared.code.Code.{Code}
 use Rattle.stack_vm.specs.declared.code.FunctionCode.{FunctionCode}
 use Rattle.stack_vm.specs.declared.code.Instruction.{Instruction}
 use Rattle.stack_vm.specs.declared.code.Instruction.TheVariants as op
 use Rattle.stack_vm.specs.declared.state.Operand.{Operand}
 use Rattle.stack_vm.specs.declared.state.State.{State}
-use Rattle.stack_vm.specs.Machine.{Next, On, Halt, land, effect, stepped, native_on, take_values, top_value, goes, branch, label_at, give, Taken, beside, act, advance, fetch, then_some}
+use Rattle.stack_vm.specs.Machine.{Next, On, Halt, land, effect, native_on, take_values, top_value, goes, branch, label_at, give, Taken, beside, act, advance, fetch, then_some}
 use Rattle.stack_vm.specs.Valid.{Target, IsValid}
 use Rattle.stack_vm.specs.declared.code.Label.{Label}
 use Rattle.mql_mean.specs.Store.{with_some}

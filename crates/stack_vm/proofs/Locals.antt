@@ -1,5 +1,5 @@
 -- Locals of the call in force.
-use Rattle.std.proofs.Common.{◌≡◌, ℕ, pos, ◌+◌, ◌-◌, ◌<◌, List, [], ◌∷◌, ◌++◌, length, take, get_or, Option, Some, None, refl, sym, ap, ◌∙◌, subst}
+use Rattle.std.proofs.Common.{◌≡◌, ℕ, pos, ◌+◌, ◌-◌, ◌<◌, List, [], ◌∷◌, ◌++◌, length, take, get_or, Some, None, refl, sym, ap, ◌∙◌}
 use Rattle.std.specs.Prelude.{slice_get, slice_set}
 use Rattle.std.proofs.lemmas.List.{take_more, set-get_or}
 use Rattle.std.proofs.lemmas.Option.{get_or_from_slice_get}
@@ -8,7 +8,7 @@ use Rattle.mql_mean.specs.declared.value.Value.{Value}
 use Rattle.mql_mean.specs.declared.value.Value.TheVariants.{Num}
 use Rattle.mql_mean.specs.declared.store.Store.{Store}
 use Rattle.mql_mean.specs.declared.store.Frame.{Frame}
-use Rattle.mql_mean.specs.World.{Stuck, Out, Ok', Bad}
+use Rattle.mql_mean.specs.World.{Stuck, Ok', Bad}
 use Rattle.mql_mean.specs.Store.{frames, zeros, with_some, put_top, with_local, write}
 
 zeros_more : (ks : List IntKind) (k : IntKind) → zeros (ks ++ k ∷ []) ≡ zeros ks ++ Num k (pos 0) ∷ []

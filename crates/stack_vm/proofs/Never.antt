@@ -1,12 +1,12 @@
 -- Valid code is never stuck.
 use denote.Hole.Carrier.{out}
-use Rattle.std.proofs.Common.{◌≡◌, ℕ, ℤ, pos, zero, suc, ◌+◌, ◌-◌, ◌*◌, ◌<◌, ◌≤◌, Bool, true, false, List, [], ◌∷◌, ◌++◌, length, take, Option, Some, None, Result, Ok, Err, refl, sym, ap, ◌∙◌, subst, arith, add-one, length-append}
-use Rattle.std.specs.Prelude.{slice_get, slice_set, nat_lt, ◌&&◌}
-use Rattle.std.proofs.lemmas.Option.{slice_get_within, slice_get_past, slice_get-get_or}
+use Rattle.std.proofs.Common.{◌≡◌, ℕ, ℤ, pos, zero, suc, ◌+◌, ◌-◌, ◌<◌, Bool, true, false, List, [], ◌∷◌, ◌++◌, length, Option, Some, None, Result, Ok, Err, refl, sym, ap, ◌∙◌, subst, arith, add-one}
+use Rattle.std.specs.Prelude.{slice_get, slice_set, ◌&&◌}
+use Rattle.std.proofs.lemmas.Option.{slice_get_within, slice_get-get_or}
 use Rattle.std.proofs.lemmas.List.{length-set, get_or-set_same}
 use Rattle.mql_mean.specs.declared.value.Value.{Value, out-Value}
 use Rattle.mql_mean.specs.declared.value.Value.TheOpen.{Value-F}
-use Rattle.mql_mean.specs.declared.value.Value.TheVariants.{Num, Str}
+use Rattle.mql_mean.specs.declared.value.Value.TheVariants.{Str}
 use Rattle.fx8.specs.declared.int_kind.IntKind.{IntKind}
 use Rattle.fx8.specs.declared.int_operator.IntOperator.{IntOperator}
 use Rattle.fx8.specs.declared.int_operator.IntOperator.TheVariants as iop
@@ -25,11 +25,11 @@ use Rattle.mql_mean.specs.declared.store.Frame.{Frame}
 use Rattle.mql_mean.specs.declared.tree.Native.{Native}
 use Rattle.mql_mean.specs.declared.tree.Native.TheVariants.{Print}
 use Rattle.mql_mean.specs.Answer.{Answer, Replied, Refused}
-use Rattle.mql_mean.specs.Natives.{takes, gives, native_void, all_print, prints_at, prints}
+use Rattle.mql_mean.specs.Natives.{gives, native_void, all_print, prints_at}
 use Rattle.mql_mean.specs.Store.{top, with_some, set_line, put_top, with_line, with_local, read, write}
-use Rattle.mql_mean.specs.Apply.{number_at, number_of, is_so, truth_at, truth, compares, kind_if, gave, on_numbers, apply}
+use Rattle.mql_mean.specs.Apply.{number_at, number_of, is_so, truth_at, compares, kind_if, gave, on_numbers, apply}
 use Rattle.mql_mean.specs.Ask.{call_of, asked, answered, replied}
-use Rattle.mql_mean.specs.World.{Ended, Failed, Stuck, World, world, Out, Ok', Bad, Res, Go, End, lift, map_out}
+use Rattle.mql_mean.specs.World.{Stuck, World, world, Out, Ok', Bad, lift, map_out}
 use Rattle.stack_vm.specs.declared.code.Code.{Code}
 use Rattle.stack_vm.specs.declared.code.Constant.{Constant}
 use Rattle.stack_vm.specs.declared.code.Constant.TheVariants as constant
@@ -41,10 +41,10 @@ use Rattle.stack_vm.specs.declared.code.Effect.TheVariants as ef
 use Rattle.stack_vm.specs.declared.state.Operand.{Operand}
 use Rattle.stack_vm.specs.declared.state.Operand.TheVariants.{Value as Val, Place as At}
 use Rattle.stack_vm.specs.declared.state.State.{State}
-use Rattle.stack_vm.specs.Machine.{Next, On, Halt, land, effect, stepped, native_on, take_values, top_value, top_place, with_value, goes, branch, label_at, give, Taken, beside, act, advance, fetch, then_some, constant_value, constant_of, drop_on}
+use Rattle.stack_vm.specs.Machine.{On, land, effect, stepped, native_on, take_values, top_value, top_place, with_value, goes, branch, label_at, give, Taken, beside, act, advance, fetch, then_some, constant_value, drop_on}
 use Rattle.stack_vm.specs.Steps.{Stepped, on, over}
 use Rattle.mql_mean.specs.Types.{Is}
-use Rattle.stack_vm.specs.Valid.{Kind, Number, Text, Place, Other, kind_at, place_kind, kind_of, kinds_of, text_kind, constant_kind, after_const, after_drop, after_local, after_read, after_number, after_write, after_apply, after_effect, prints_kind, if_so, after_native, after_jump, after_unless, after, after_at, kinds_at, Target, SameKind, Suits, Leads, IsFine, ValidFunction, IsValid, OfKinds, InForce, Fits, Sticks, Runs}
+use Rattle.stack_vm.specs.Valid.{Kind, Number, Text, Place, Other, kind_at, place_kind, kinds_of, text_kind, constant_kind, after_const, after_drop, after_local, after_read, after_number, after_write, after_apply, after_effect, prints_kind, if_so, after_native, after_jump, after_unless, after, after_at, kinds_at, Target, SameKind, Suits, Leads, IsValid, OfKinds, InForce, Fits, Sticks, Runs}
 
 some_is : {A : Type 0} (a b : A) → Some a ≡ Some b → a ≡ b
 some_is a b e = ap (λ o. elim o as (λ _. _) [ None ↦ a | Some x ↦ x ]) e

@@ -1,9 +1,9 @@
 -- Values that are taken from the operands, one after another.
-use Rattle.std.proofs.Common.{◌≡◌, ℕ, zero, suc, ◌+◌, ◌-◌, ◌<◌, ◌≤◌, List, [], ◌∷◌, Option, Some, None, refl, sym, ap, ◌∙◌, subst, arith}
+use Rattle.std.proofs.Common.{◌≡◌, ℕ, zero, suc, ◌+◌, ◌-◌, ◌<◌, ◌≤◌, List, [], ◌∷◌, Some, None, sym, ap, ◌∙◌, arith}
 use Rattle.mql_mean.specs.declared.value.Value.{Value}
 use Rattle.stack_vm.specs.declared.state.Operand.{Operand}
 use Rattle.stack_vm.specs.declared.state.Operand.TheVariants.{Value as Val}
-use Rattle.stack_vm.specs.Machine.{Taken, beside, take_values}
+use Rattle.stack_vm.specs.Machine.{beside, take_values}
 
 pub one_taken : (c i : ℕ) (ops ops' : List Operand) (vs vs' : List Value) (v : Value) → i < c → ops ≡ Val v ∷ ops' → vs' ≡ v ∷ vs → take_values (c - i) ops vs ≡ take_values (c - (i + 1)) ops' vs'
 one_taken c i ops ops' vs vs' v lt e f =

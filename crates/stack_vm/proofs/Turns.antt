@@ -1,18 +1,16 @@
 -- Instructions of the machine's code, and runs of them.
-use Rattle.std.proofs.Common.{◌≡◌, ℕ, zero, suc, ◌+◌, ◌<◌, ◌≤◌, Bool, true, false, List, [], ◌∷◌, ◌++◌, Option, Some, None, Result, Ok, Err, refl, sym, ap, ◌∙◌, subst, append-nil, append_assoc}
+use Rattle.std.proofs.Common.{◌≡◌, ℕ, zero, suc, ◌+◌, Bool, true, false, List, [], ◌∷◌, ◌++◌, Option, Some, None, Result, Ok, Err, refl, sym, ap, ◌∙◌, subst, append-nil, append_assoc}
 use Rattle.std.specs.Prelude.{IsTrue}
 use Rattle.mql_mean.specs.declared.value.Value.{Value}
-use Rattle.mql_mean.specs.declared.error.ErrorKind.{ErrorKind}
 use Rattle.mql_mean.specs.declared.error.RunError.{RunError}
 use Rattle.mql_mean.specs.declared.tree.Native.{Native}
 use Rattle.mql_mean.specs.declared.host.HostCall.{HostCall}
 use Rattle.mql_mean.specs.declared.host.Reply.{Reply}
-use Rattle.mql_mean.specs.declared.store.Store.{Store}
 use Rattle.mql_mean.specs.Answer.{Answer, Replied, Refused}
 use Rattle.mql_mean.specs.Natives.{takes, gives, native_void}
 use Rattle.mql_mean.specs.Store.{line_in}
 use Rattle.mql_mean.specs.Ask.{call_of, asked, replied}
-use Rattle.mql_mean.specs.World.{Ended, Failed, Stuck, World, world}
+use Rattle.mql_mean.specs.World.{Failed, Stuck, World, world}
 use Rattle.stack_vm.specs.declared.code.Code.{Code}
 use Rattle.stack_vm.specs.declared.code.Instruction.{Instruction}
 use Rattle.stack_vm.specs.declared.code.Instruction.TheVariants as op
@@ -21,7 +19,7 @@ use Rattle.stack_vm.specs.declared.state.State.{State}
 use Rattle.stack_vm.specs.declared.fault.Fault.{Fault}
 use Rattle.stack_vm.specs.declared.fault.Fault.TheVariants as fault
 use Rattle.stack_vm.specs.Machine.{Next, On, Halt, land, act, advance, fetch, iter, Comes, Taken, beside, take_values, give, native_on}
-use Rattle.stack_vm.specs.Steps.{Turns, on, over, as_ended, Acts, Gave, Took, Over, Stepped, Steps, Run}
+use Rattle.stack_vm.specs.Steps.{Turns, on, over, as_ended, Acts, Gave, Took, Stepped, Steps, Run}
 
 module _ {H : Type 0} (may : H → HostCall → Answer → H → Type 0) (code : Code) where
   -- a step with no call

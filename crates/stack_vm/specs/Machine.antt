@@ -1,12 +1,12 @@
 -- What the machine does, instruction by instruction.
-use Rattle.std.specs.Prelude.{◌≡◌, ℕ, ℤ, zero, suc, ◌+◌, Bool, true, false, List, [], ◌∷◌, ◌++◌, Option, Some, None, slice_get}
+use Rattle.std.specs.Prelude.{◌≡◌, ℕ, ℤ, zero, suc, ◌+◌, Bool, true, false, List, [], ◌∷◌, Option, Some, None, slice_get}
 use Rattle.mql_mean.specs.declared.value.Value.{Value}
 use Rattle.mql_mean.specs.declared.value.Value.TheVariants.{Num, Str}
 use Rattle.mql_mean.specs.declared.store.Store.{Store}
 use Rattle.mql_mean.specs.declared.tree.Native.{Native}
 use Rattle.mql_mean.specs.declared.tree.Entry.{Entry}
 use Rattle.mql_mean.specs.declared.tree.Entry.TheVariants as entry
-use Rattle.mql_mean.specs.World.{Ended, Returned, Exhausted, Stuck, World, world, Out, Ok', Bad, Res, Go, End, lift, map_out}
+use Rattle.mql_mean.specs.World.{Ended, Returned, Exhausted, Stuck, World, Out, Ok', Bad, Res, Go, End, lift, map_out}
 use Rattle.mql_mean.specs.Store.{with_some, enter, leave, set_line, read, write}
 use Rattle.mql_mean.specs.Apply.{arity, apply, truth}
 use Rattle.mql_mean.specs.Ask.{ask}
@@ -34,6 +34,7 @@ abbrev pub land : {A : Type 0} → Res A → (A → ℕ → World → Next) → 
 land (Go a n w) f = f a n w
 land (End e n w) f = Halt e n w
 
+-- a look-up after another
 abbrev pub then_some : {A B : Type 0} → Option A → (A → Option B) → Option B
 then_some None f = None
 then_some (Some a) f = f a
@@ -43,6 +44,7 @@ abbrev pub constant_value : Code → Constant → Option Value
 constant_value code (constant.Number k x) = Some (Num k x)
 constant_value code (constant.Text number) = then_some (slice_get code.texts number) (λ s. Some (Str s))
 
+-- the value of the constant of a number
 abbrev pub constant_of : Code → ℕ → Option Value
 constant_of code number = then_some (slice_get code.constants number) (constant_value code)
 
@@ -51,6 +53,7 @@ pub record Taken (A : Type 0) : Type 0 where
   pub it : A
   pub rest : List Operand
 
+-- a thing and the operands below it
 abbrev pub beside : {A : Type 0} → A → List Operand → Taken A
 beside a operands = record { it = a; rest = operands }
 
@@ -72,11 +75,13 @@ top_value [] = None
 top_value (At p ∷ operands) = None
 top_value (Val v ∷ operands) = Some (beside v operands)
 
+-- the topmost operand, if it is a place
 abbrev pub top_place : List Operand → Option (Taken ℕ)
 top_place [] = None
 top_place (At p ∷ operands) = Some (beside p operands)
 top_place (Val v ∷ operands) = None
 
+-- a value on top
 abbrev pub with_value : List Operand → Value → List Operand
 with_value operands v = Val v ∷ operands
 
@@ -99,6 +104,7 @@ goes (Some place) function operands n w = On function place operands n w
 abbrev pub label_at : Code → ℕ → ℕ → Option ℕ
 label_at code function label = then_some (slice_get code.functions function) (λ c. then_some (slice_get c.labels label) (λ l. Some l.place))
 
+-- one of two states
 abbrev pub branch : Bool → Next → Next → Next
 branch true a b = a
 branch false a b = b
@@ -133,6 +139,7 @@ act code (Some op.Return) function place operands n w = Halt (Returned void_valu
 abbrev pub fetch : Code → ℕ → ℕ → Option Instruction
 fetch code function place = then_some (slice_get code.functions function) (λ c. slice_get c.instructions place)
 
+-- the next state
 abbrev pub advance : Code → Next → Next
 advance code (On function place operands n w) = act code (fetch code function place) function place operands n w
 advance code (Halt e n w) = Halt e n w
@@ -162,6 +169,7 @@ entry_of entries entry.Tester = entries.tester
 entry_of entries entry.Deinit = entries.deinit
 entry_of entries entry.Stop = entries.stop
 
+-- the beginning of an entry's function, if it has one
 abbrev pub starts_at : Code → Option ℕ → ℕ → World → Next
 starts_at code None n w = Halt Stuck n w
 starts_at code (Some function) n w = starts (slice_get code.functions function) function n w

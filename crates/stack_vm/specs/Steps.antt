@@ -1,6 +1,5 @@
 -- What the machine's code does: one instruction, and a whole run, over any host.
 use Rattle.std.specs.Prelude.{◌≡◌, ℕ, ℤ, Bool, true, false, slice_get, List, [], ◌∷◌, ◌++◌, Result, Ok, Err, Option, Some, None}
-use Rattle.mql_mean.specs.declared.error.RunError.{RunError}
 use Rattle.mql_mean.specs.declared.value.Value.{Value}
 use Rattle.mql_mean.specs.declared.store.Store.{Store}
 use Rattle.mql_mean.specs.declared.store.Frame.{Frame}
@@ -9,7 +8,7 @@ use Rattle.mql_mean.specs.Types.{Is}
 use Rattle.mql_mean.specs.declared.host.HostCall.{HostCall}
 use Rattle.mql_mean.specs.declared.tree.Entry.{Entry}
 use Rattle.mql_mean.specs.Answer.{Answer}
-use Rattle.mql_mean.specs.World.{Ended, Returned, Failed, Exhausted, Stuck, World, world, Out, Ok', Bad}
+use Rattle.mql_mean.specs.World.{Ended, Returned, Failed, Exhausted, Stuck, world, Out, Ok', Bad}
 use Rattle.stack_vm.specs.declared.machine.End.{End}
 use Rattle.stack_vm.specs.declared.machine.End.TheVariants as ended
 use Rattle.stack_vm.specs.declared.fault.Fault.{Fault}

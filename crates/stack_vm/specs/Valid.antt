@@ -1,5 +1,5 @@
 -- Valid code: it never misses an operand, and always comes to its end.
-use Rattle.std.specs.Prelude.{◌≡◌, ℕ, zero, suc, ◌+◌, ◌-◌, ◌*◌, ◌<◌, ◌≤◌, Bool, true, false, ◌&&◌, IsTrue, List, [], ◌∷◌, length, Option, Some, None, slice_get}
+use Rattle.std.specs.Prelude.{◌≡◌, ℕ, zero, suc, ◌+◌, ◌<◌, ◌≤◌, Bool, true, false, List, [], ◌∷◌, length, Option, Some, None, slice_get}
 use Rattle.mql_mean.specs.declared.value.Value.{Value, out-Value}
 use Rattle.mql_mean.specs.declared.value.Value.TheOpen.{Value-F}
 use Rattle.mql_mean.specs.declared.tree.Entry.{Entry}
@@ -23,7 +23,7 @@ use Rattle.stack_vm.specs.declared.code.Effect.{Effect}
 use Rattle.stack_vm.specs.declared.code.Effect.TheVariants as ef
 use Rattle.stack_vm.specs.declared.state.Operand.{Operand}
 use Rattle.stack_vm.specs.declared.state.Operand.TheVariants.{Value as Val, Place as At}
-use Rattle.stack_vm.specs.Machine.{Next, On, Halt, fetch, entry_of, then_some, constant_of}
+use Rattle.stack_vm.specs.Machine.{Next, On, Halt, entry_of, then_some}
 
 -- the kinds of operands: a number of a kind, a text, or the place of a local of a kind (own)
 pub data Kind : Type 0 where
@@ -32,6 +32,7 @@ pub data Kind : Type 0 where
   Place : (kind : IntKind) → Kind
   Other : Kind
 
+-- the kind of a value
 abbrev pub kind_at : Value-F Value → Kind
 kind_at (Value-F.Num k x) = Number k
 kind_at (Value-F.Dbl x) = Other
@@ -40,6 +41,7 @@ kind_at (Value-F.Ptr p) = Other
 kind_at (Value-F.Arr vs) = Other
 kind_at (Value-F.Rec vs) = Other
 
+-- the kind of a local's place
 abbrev pub place_kind : Option IntKind → Kind
 place_kind None = Other
 place_kind (Some k) = Place k
@@ -49,6 +51,7 @@ abbrev pub kind_of : List IntKind → Operand → Kind
 kind_of locals (Val v) = kind_at (out-Value v)
 kind_of locals (At local) = place_kind (slice_get locals local)
 
+-- the kinds of operands
 abbrev pub kinds_of : List IntKind → List Operand → List Kind
 kinds_of locals [] = []
 kinds_of locals (x ∷ xs) = kind_of locals x ∷ kinds_of locals xs
@@ -58,6 +61,7 @@ abbrev pub text_kind : Option (List ℕ) → Option Kind
 text_kind None = None
 text_kind (Some s) = Some Text
 
+-- the kind of a constant, if it has a value
 abbrev pub constant_kind : Code → Constant → Option Kind
 constant_kind code (constant.Text number) = text_kind (slice_get code.texts number)
 constant_kind code (constant.Number k x) = Some (Number k)
@@ -67,14 +71,17 @@ abbrev pub after_const : Option Kind → List Kind → Option (List Kind)
 after_const None ks = None
 after_const (Some k) ks = Some (k ∷ ks)
 
+-- without the topmost kind
 abbrev pub after_drop : List Kind → Option (List Kind)
 after_drop [] = None
 after_drop (k ∷ ks) = Some ks
 
+-- with the place of a local that is there
 abbrev pub after_local : Option IntKind → List Kind → Option (List Kind)
 after_local None ks = None
 after_local (Some k) ks = Some (Place k ∷ ks)
 
+-- a place's kind becomes its number's
 abbrev pub after_read : List Kind → Option (List Kind)
 after_read [] = None
 after_read (Number k ∷ ks) = None
@@ -82,6 +89,7 @@ after_read (Text ∷ ks) = None
 after_read (Place k ∷ ks) = Some (Number k ∷ ks)
 after_read (Other ∷ ks) = None
 
+-- without a topmost number
 abbrev pub after_number : List Kind → Option (List Kind)
 after_number [] = None
 after_number (Number k ∷ ks) = Some ks
@@ -89,6 +97,7 @@ after_number (Text ∷ ks) = None
 after_number (Place k ∷ ks) = None
 after_number (Other ∷ ks) = None
 
+-- without a place and the number below it
 abbrev pub after_write : List Kind → Option (List Kind)
 after_write [] = None
 after_write (Number k ∷ ks) = None
@@ -105,6 +114,7 @@ after_apply (suc c) k (Text ∷ ks) = None
 after_apply (suc c) k (Place j ∷ ks) = None
 after_apply (suc c) k (Other ∷ ks) = None
 
+-- the kinds after an effect
 abbrev pub after_effect : Code → List IntKind → Effect → List Kind → Option (List Kind)
 after_effect code locals (ef.Const number) ks = after_const (then_some (slice_get code.constants number) (constant_kind code)) ks
 after_effect code locals ef.Drop ks = after_drop ks
@@ -121,6 +131,7 @@ prints_kind Text = true
 prints_kind (Place k) = false
 prints_kind Other = false
 
+-- what is given, where the test holds
 abbrev pub if_so : Bool → Option (List Kind) → Option (List Kind)
 if_so true o = o
 if_so false o = None
@@ -136,6 +147,7 @@ abbrev pub after_jump : List Kind → Option (List Kind)
 after_jump [] = Some []
 after_jump (k ∷ ks) = None
 
+-- a test takes a number, and leaves no operand to take along
 abbrev pub after_unless : Option (List Kind) → Option (List Kind)
 after_unless None = None
 after_unless (Some ks) = after_jump ks
@@ -149,6 +161,7 @@ after code locals (op.Unless label) ks = after_unless (after_number ks)
 after code locals op.Step ks = Some ks
 after code locals op.Return ks = Some []
 
+-- the kinds after an instruction that is there
 abbrev pub after_at : Code → List IntKind → Option Instruction → Option (List Kind) → Option (List Kind)
 after_at code locals None ks = None
 after_at code locals (Some i) None = None
@@ -176,6 +189,7 @@ SameKind (Place k ∷ []) = ⊥
 SameKind (Place k ∷ j ∷ ks) = j ≡ Number k
 SameKind (Other ∷ ks) = ⊥
 
+-- what an effect asks of kinds beside their being there
 abbrev pub Suits : Effect → List Kind → Type 0
 Suits (ef.Const number) ks = Unit {0}
 Suits ef.Drop ks = Unit {0}
@@ -217,6 +231,7 @@ abbrev pub is_some : {A : Type 0} → Option A → Bool
 is_some None = false
 is_some (Some a) = true
 
+-- the code has an entry
 abbrev pub has_entry : Code → Entry → Bool
 has_entry code entry = is_some (entry_of code.entries entry)
 
@@ -249,6 +264,7 @@ Sticks (Failed kind line) = ⊥
 Sticks Exhausted = ⊥
 Sticks Stopped = ⊥
 
+-- a machine that fits its code, or has ended and not stuck
 abbrev pub Runs : Code → Next → Type 0
 Runs code (On function place operands n w) = Fits code function place operands w.store
 Runs code (Halt e n w) = Sticks e → ⊥

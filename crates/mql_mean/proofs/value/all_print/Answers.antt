@@ -1,4 +1,4 @@
-use Rattle.std.proofs.Common.{sym, ap, ◌∙◌}
+use Rattle.std.proofs.Common.{sym, ◌∙◌}
 use Rattle.mql_mean.proofs.Prints.{at_item, at_end}
 use Rattle.mql_mean.proofs.value.all_print.Goals as goal
 
