@@ -1,5 +1,5 @@
 -- Files and a sink that are kept in memory, and which calls of theirs are to fail.
-use Rattle.std.specs.Prelude.{◌≡◌, ℕ, Bool, true, false, ◌==◌, nat_lt, List, length, Option, Some, None, Result, Ok, Err, find, option_map, bytes_eq, if◌then◌else◌, IsOk}
+use Rattle.std.specs.Prelude.{◌≡◌, ℕ, Bool, ◌==◌, nat_lt, List, length, Option, Some, None, Result, Ok, Err, find, option_map, bytes_eq, if◌then◌else◌, IsOk}
 use Rattle.std.specs.List.{list_any}
 use Rattle.tester_io.specs.declared.fault.FileFault.{FileFault}
 use Rattle.tester_io.specs.declared.fault.FileFault.TheVariants.{Absent, Failed, TooLarge, OutOfMemory}
