@@ -1,1 +1,3 @@
+pub mod Lexeme
+pub mod Onward
 pub mod Text

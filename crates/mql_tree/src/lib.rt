@@ -1,8 +1,12 @@
 //! The text of a source file, its tokens and its tree.
 #![tactic(auto)]
 
+mod lexeme;
+mod scan;
 #[cfg(test)]
 mod tests;
 mod text;
+mod token;
 
 pub use text::{TextFault, text_of_bytes};
+pub use token::{LexFault, Span, Token, Tokens};
