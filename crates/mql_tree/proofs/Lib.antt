@@ -1,1 +1,3 @@
 pub mod Surrogates
+pub mod LongestPiece
+pub mod Digits

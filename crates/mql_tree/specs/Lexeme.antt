@@ -58,12 +58,18 @@ key_of (a ∷ b ∷ []) = Some (2, a, b, 0)
 key_of (a ∷ b ∷ c ∷ []) = Some (3, a, b, c)
 key_of us = None
 
-abbrev pub same_key : ℕ × ℕ × ℕ × ℕ → ℕ × ℕ × ℕ × ℕ → Bool
+-- two keys are one
+unfoldable pub same_key : ℕ × ℕ × ℕ × ℕ → ℕ × ℕ × ℕ × ℕ → Bool
 same_key k e = (e.0 == k.0) && (e.1 == k.1) && (e.2 == k.2) && (e.3 == k.3)
+
+-- the place of a key, where the first key stands at place k
+abbrev pub number_from : ℕ → ℕ × ℕ × ℕ × ℕ → List (ℕ × ℕ × ℕ × ℕ) → Option ℕ
+number_from k key [] = None
+number_from k key (e ∷ es) = if same_key key e then Some k else number_from (k + 1) key es
 
 unfoldable pub sign_at : Option (ℕ × ℕ × ℕ × ℕ) → Option Lexeme
 sign_at None = None
-sign_at (Some key) = option_map Sign (position (same_key key) SIGNS)
+sign_at (Some key) = option_map Sign (number_from 0 key SIGNS)
 
 abbrev pub sign_of : List ℕ → Option Lexeme
 sign_of us = sign_at (key_of us)

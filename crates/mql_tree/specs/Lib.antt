@@ -1,3 +1,5 @@
 pub mod Lexeme
+pub mod Longest
 pub mod Onward
 pub mod Text
+pub mod Value

@@ -3,6 +3,7 @@
 
 mod lexeme;
 mod scan;
+mod value;
 #[cfg(test)]
 mod tests;
 mod text;

@@ -1,0 +1,102 @@
+//! What a piece of text means: nothing, a token or a fault.
+ghost use Rattle.std.specs.Prelude.{◌≡◌, ◌+◌, ◌*◌, ◌-◌, ◌^◌, ◌<◌, ◌≤◌, length, take, drop, IfOk, MatchOption, Some};
+ghost use Rattle.mql_tree.specs.Value.{digit_value, value_from, decimal, hexadecimal, named};
+
+use crate::Token;
+use crate::lexeme::{Lexeme, Quote};
+use fx8::{IntKind, OutOfMemory, Text};
+use std::alloc::Global;
+
+/// Why a piece means no token.
+#[derive(Clone, Copy, Debug, PartialEq, Eq)]
+pub enum PieceFault {
+    NoToken,
+    NameTooLong,
+    NumberTooLarge,
+    OpenComment,
+    OpenString,
+}
+
+/// What a piece means.
+#[derive(Debug, Drop)]
+pub enum Meaning {
+    Nothing,
+    Token(Token),
+    Fault(PieceFault),
+}
+
+fn digit_value(unit: u16) -> u16
+    ensures { result ≡ digit_value unit }
+{
+    if unit <= 57 {
+        unit.saturating_sub(48)
+    } else if 97 <= unit {
+        unit - 87
+    } else {
+        unit.saturating_sub(55)
+    }
+}
+
+/// The number with one digit more, where it fits 64 bits.
+fn with_digit(base: u64, value: u64, digit: u16) -> Option<u64>
+    ensures { MatchOption result (2 ^ 64 ≤ base * value + digit_value digit) (λ next. next ≡ base * value + digit_value digit) }
+{
+    let shifted = base.checked_mul(value)?;
+    shifted.checked_add(u64::from(digit_value(digit)))
+}
+
+/// The number of these digits, where it fits 64 bits.
+fn number(base: u64, digits: &[u16]) -> Option<u64>
+    requires { 1 ≤ base }
+    ensures { MatchOption result (2 ^ 64 ≤ value_from base 0 digits.now) (λ value. value ≡ value_from base 0 digits.now) }
+{
+    let mut value = 0u64;
+    let mut rest = digits;
+    while let Some((digit, others)) = rest.split_first() {
+        match with_digit(base, value, *digit) {
+            Some(next) => value = next,
+            None => return None,
+        }
+        rest = others;
+    }
+    Some(value)
+}
+
+/// A decimal literal: the first of `int`, `long` and `ulong` that holds it.
+#[tactic(auto, unfolding(crate::specs::Value::decimal))]
+fn decimal(digits: &[u16]) -> Meaning
+    ensures { result ≡ decimal (value_from 10 0 digits.now) }
+{
+    match number(10, digits) {
+        None => Meaning::Fault(PieceFault::NumberTooLarge),
+        Some(value) if value < 0x8000_0000 => Meaning::Token(Token::Int { value, kind: IntKind::Int }),
+        Some(value) if value < 0x8000_0000_0000_0000 => Meaning::Token(Token::Int { value, kind: IntKind::Long }),
+        Some(value) => Meaning::Token(Token::Int { value, kind: IntKind::Ulong }),
+    }
+}
+
+/// A hexadecimal literal: the first of `int`, `uint`, `long` and `ulong` that holds it.
+#[tactic(auto, unfolding(crate::specs::Value::hexadecimal))]
+fn hexadecimal(digits: &[u16]) -> Meaning
+    ensures { result ≡ hexadecimal (value_from 16 0 digits.now) }
+{
+    match number(16, digits) {
+        None => Meaning::Fault(PieceFault::NumberTooLarge),
+        Some(value) if value < 0x8000_0000 => Meaning::Token(Token::Int { value, kind: IntKind::Int }),
+        Some(value) if value < 0x1_0000_0000 => Meaning::Token(Token::Int { value, kind: IntKind::Uint }),
+        Some(value) if value < 0x8000_0000_0000_0000 => Meaning::Token(Token::Int { value, kind: IntKind::Long }),
+        Some(value) => Meaning::Token(Token::Int { value, kind: IntKind::Ulong }),
+    }
+}
+
+/// A name, of at most 63 characters.
+#[tactic(auto, unfolding(crate::specs::Value::named))]
+fn named(alloc: Global, name: &[u16]) -> Result<Meaning, OutOfMemory>
+    ensures { IfOk result (λ means. means ≡ named name.now) }
+{
+    if name.len() > 63 {
+        return Ok(Meaning::Fault(PieceFault::NameTooLong));
+    }
+    let text = Text::from_slice(alloc, name)?;
+    Ok(Meaning::Token(Token::Name(text)))
+}
