@@ -43,4 +43,26 @@ named us = if nat_lt 63 (length us) then Fault faults.NameTooLong else Token (to
 
 -- what stands between the first unit and the last
 abbrev pub between : List ℕ → List ℕ
-between us = take (length us - 2) (drop 1 us)
+between us = drop 1 (take (length us - 1) us)
+
+-- what a text between quotes means, by the quotes (MQL5 Reference, Including Files)
+unfoldable pub quoted : Quote → List ℕ → Meaning
+quoted quotes.Str us = Fault faults.NoToken
+quoted quotes.Char us = Fault faults.NoToken
+quoted quotes.Date us = Fault faults.NoToken
+quoted quotes.Color us = Fault faults.NoToken
+quoted quotes.File us = Token (tokens.IncludeName (between us))
+quoted quotes.Library us = Token (tokens.IncludeName (between us))
+
+-- what a piece means
+unfoldable pub meaning : Lexeme → List ℕ → Meaning
+meaning pieces.Blank us = Nothing
+meaning pieces.OpenComment us = Fault faults.OpenComment
+meaning pieces.Name us = named us
+meaning pieces.Decimal us = decimal (value_from 10 0 us)
+meaning pieces.Hexadecimal us = hexadecimal (value_from 16 0 (drop 2 us))
+meaning pieces.Double us = Fault faults.NoToken
+meaning (pieces.Quoted quote) us = quoted quote us
+meaning pieces.OpenString us = Fault faults.OpenString
+meaning (pieces.Sign number) us = Token (tokens.Sign number)
+meaning pieces.LineEnd us = Token tokens.LineEnd

@@ -1,6 +1,7 @@
 //! The text of a source file, its tokens and its tree.
 #![tactic(auto)]
 
+mod lex;
 mod lexeme;
 mod scan;
 mod value;

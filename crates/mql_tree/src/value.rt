@@ -1,6 +1,9 @@
 //! What a piece of text means: nothing, a token or a fault.
 ghost use Rattle.std.specs.Prelude.{◌≡◌, ◌+◌, ◌*◌, ◌-◌, ◌^◌, ◌<◌, ◌≤◌, length, take, drop, IfOk, MatchOption, Some};
-ghost use Rattle.mql_tree.specs.Value.{digit_value, value_from, decimal, hexadecimal, named};
+ghost use Rattle.mql_tree.specs.Value.{digit_value, value_from, decimal, hexadecimal, named, between, quoted, meaning};
+
+ghost use Rattle.mql_tree.specs.declared.token.Token.TheVariants as tokens;
+ghost use Rattle.mql_tree.specs.declared.value.Meaning.TheVariants as meanings;
 
 use crate::Token;
 use crate::lexeme::{Lexeme, Quote};
@@ -99,4 +102,64 @@ fn named(alloc: Global, name: &[u16]) -> Result<Meaning, OutOfMemory>
     }
     let text = Text::from_slice(alloc, name)?;
     Ok(Meaning::Token(Token::Name(text)))
+}
+
+/// What stands between the first unit and the last.
+fn between(piece: &[u16]) -> &[u16]
+    ensures { result.now ≡ between piece.now }
+{
+    let front = piece.split_at(piece.len().saturating_sub(1)).0;
+    match front.split_first() {
+        Some((_, inner)) => inner,
+        None => front,
+    }
+}
+
+/// The units from the third on.
+fn behind_two(piece: &[u16]) -> &[u16]
+    ensures { result.now ≡ drop 2 piece.now }
+{
+    piece.split_at(piece.len().min(2)).1
+}
+
+/// What a text between quotes means.
+#[tactic(auto, unfolding(crate::specs::Value::quoted))]
+fn quoted(alloc: Global, quote: Quote, piece: &[u16]) -> Result<Meaning, OutOfMemory>
+    ensures { IfOk result (λ means. means ≡ quoted quote piece.now) }
+{
+    match quote {
+        Quote::Str => Ok(Meaning::Fault(PieceFault::NoToken)),
+        Quote::Char => Ok(Meaning::Fault(PieceFault::NoToken)),
+        Quote::Date => Ok(Meaning::Fault(PieceFault::NoToken)),
+        Quote::Color => Ok(Meaning::Fault(PieceFault::NoToken)),
+        Quote::File => included(alloc, piece),
+        Quote::Library => included(alloc, piece),
+    }
+}
+
+/// The name of an included file.
+fn included(alloc: Global, piece: &[u16]) -> Result<Meaning, OutOfMemory>
+    ensures { IfOk result (λ means. means ≡ meanings.Token (tokens.IncludeName (between piece.now))) }
+{
+    let name = Text::from_slice(alloc, between(piece))?;
+    Ok(Meaning::Token(Token::IncludeName(name)))
+}
+
+/// What a piece means.
+#[tactic(auto, unfolding(crate::specs::Value::meaning))]
+pub fn piece_meaning(alloc: Global, what: Lexeme, piece: &[u16]) -> Result<Meaning, OutOfMemory>
+    ensures { IfOk result (λ means. means ≡ meaning what piece.now) }
+{
+    match what {
+        Lexeme::Blank => Ok(Meaning::Nothing),
+        Lexeme::OpenComment => Ok(Meaning::Fault(PieceFault::OpenComment)),
+        Lexeme::Name => named(alloc, piece),
+        Lexeme::Decimal => Ok(decimal(piece)),
+        Lexeme::Hexadecimal => Ok(hexadecimal(behind_two(piece))),
+        Lexeme::Double => Ok(Meaning::Fault(PieceFault::NoToken)),
+        Lexeme::Quoted(quote) => quoted(alloc, quote, piece),
+        Lexeme::OpenString => Ok(Meaning::Fault(PieceFault::OpenString)),
+        Lexeme::Sign(number) => Ok(Meaning::Token(Token::Sign(number))),
+        Lexeme::LineEnd => Ok(Meaning::Token(Token::LineEnd)),
+    }
 }
