@@ -1,3 +1,4 @@
 pub mod Surrogates
 pub mod LongestPiece
 pub mod Digits
+pub mod Reading

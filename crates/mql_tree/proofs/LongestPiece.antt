@@ -1,5 +1,5 @@
 -- The last piece that a walk over a text meets is the longest.
-use Rattle.std.proofs.Common.{◌≡◌, ℕ, zero, suc, ◌+◌, ◌<◌, ◌≤◌, ◌⊎◌, inl, inr, List, [], ◌∷◌, length, take, refl, sym, ap, subst, ◌∙◌, arith, Option, Some, None}
+use Rattle.std.proofs.Common.{◌≡◌, ℕ, zero, suc, ◌+◌, ◌<◌, ◌≤◌, ◌⊎◌, IfSome, inl, inr, List, [], ◌∷◌, length, take, refl, sym, ap, subst, ◌∙◌, arith, Option, Some, None}
 use mathlib.Core.Path.{fun_ext}
 use Rattle.mql_tree.specs.declared.lexeme.Lexeme.{Lexeme}
 use Rattle.mql_tree.specs.Longest.{Longest, pick, last_from}
@@ -97,3 +97,12 @@ longest_behind what f u all us found e n h b =
 pub longest_in_none : (what : List ℕ → Option Lexeme) (us : List ℕ) → length us ≡ 0 → what [] ≡ None → Longest what us None
 longest_in_none what [] z e = none_at_end what e
 longest_in_none what (u ∷ us) z e = absurd (omega arith)
+
+not_empty : (what : List ℕ → Option Lexeme) (us : List ℕ) (n : ℕ) (piece : Lexeme) → what [] ≡ None → what (take n us) ≡ Some piece → 0 < n
+not_empty what us zero piece e h = absurd (let q : ◌≡◌ {A = Option Lexeme} None (Some piece) = sym e ∙ h in cc)
+not_empty what us (suc n) piece e h = omega arith
+
+-- a piece has at least one unit
+pub longest_goes_on : (what : List ℕ → Option Lexeme) (us : List ℕ) (found : Option (ℕ × Lexeme)) → what [] ≡ None → Longest what us found → IfSome found (λ p. (0 < p.0) × (p.0 ≤ length us))
+longest_goes_on what us None e h = tt
+longest_goes_on what us (Some found) e h = (not_empty what us found.0 found.1 e h.1, h.0)

@@ -1,7 +1,7 @@
 //! The text of a source file, its tokens and its tree.
 #![tactic(auto)]
 
-mod lex;
+mod lexer;
 mod lexeme;
 mod scan;
 mod value;
@@ -10,5 +10,6 @@ mod tests;
 mod text;
 mod token;
 
+pub use lexer::lex;
 pub use text::{TextFault, text_of_bytes};
 pub use token::{LexFault, Span, Token, Tokens};

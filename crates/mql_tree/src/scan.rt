@@ -1,5 +1,5 @@
 //! How a piece goes on: what the units read so far leave open.
-ghost use Rattle.std.specs.Prelude.{◌≡◌, ℕ, ◌≤◌, List, [], ◌∷◌, length, ◌+◌, ◌^◌, ◌<◌, Option, Some, None};
+ghost use Rattle.std.specs.Prelude.{◌≡◌, ℕ, ◌≤◌, List, [], ◌∷◌, length, ◌+◌, ◌^◌, ◌<◌, Option, Some, None, IfSome};
 ghost use Rattle.std.specs.Bool.{OnTrue};
 ghost use Rattle.mql_tree.specs.Longest.{Longest, pick, last_from};
 ghost use Rattle.std.specs.Prelude.{true, false};
@@ -535,7 +535,8 @@ fn better(count: usize, here: Option<Lexeme>, best: Option<(usize, Lexeme)>) -> 
 /// The longest piece at the beginning of a text.
 pub fn longest(mode: Mode, text: &[u16]) -> Option<(usize, Lexeme)>
     requires { length text.now ≤ 1048576 }
-    ensures { Longest (lexeme mode) text.now result }
+    ensures longest { Longest (lexeme mode) text.now result }
+    ensures progress { IfSome result (λ found. (0 < found.0) × (found.0 ≤ length text.now)) }
 {
     match text.split_first() {
         Some((unit, others)) => walk(others, 1, first(mode, *unit)),

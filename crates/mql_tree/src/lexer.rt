@@ -90,3 +90,51 @@ fn fault_at(fault: PieceFault, span: Span) -> LexFault
         PieceFault::OpenString => LexFault::OpenString(span),
     }
 }
+
+/// The tokens of a text that is the file of that number, or the first fault in it. It asks for at most 1,048,576 units.
+pub fn lex(alloc: Global, file: u32, text: &Text) -> Result<Tokens, LexFault>
+    requires { length text.now ≤ 1048576 }
+    ensures { IsLexed file text.now result }
+{
+    let mut tokens = Tokens::new(alloc);
+    let mut mode = Mode::Plain;
+    let mut line = 1u32;
+    let mut place = 0u32;
+    let mut rest = text.as_slice();
+    while rest.len() > 0 {
+        let Some((count, what)) = longest(mode, rest) else {
+            return Err(LexFault::NoToken(Span {
+                file,
+                line,
+                start: place,
+                end: place + 1,
+            }));
+        };
+        let (piece, others) = rest.split_at(count);
+        let span = Span {
+            file,
+            line,
+            start: place,
+            end: place + count as u32,
+        };
+        match piece_meaning(alloc, what, piece)? {
+            Meaning::Nothing => {
+                line += line_ends(piece) as u32;
+                place += count as u32;
+                rest = others;
+                continue;
+            }
+            Meaning::Token(token) => {
+                let next = mode_behind(mode, &token);
+                tokens.push((token, span))?;
+                mode = next;
+                line += line_ends(piece) as u32;
+                place += count as u32;
+                rest = others;
+                continue;
+            }
+            Meaning::Fault(fault) => return Err(fault_at(fault, span)),
+        }
+    }
+    Ok(tokens)
+}
