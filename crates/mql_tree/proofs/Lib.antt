@@ -2,3 +2,4 @@ pub mod Surrogates
 pub mod LongestPiece
 pub mod Digits
 pub mod Reading
+pub mod Escapes

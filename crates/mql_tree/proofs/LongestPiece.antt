@@ -46,18 +46,21 @@ found_from : (k : ℕ) (best : Option (ℕ × Lexeme)) (what : List ℕ → Opti
 unfolding last_from
 found_from k best what [] = at_end k best what (what []) refl
 found_from k best what (u ∷ us) = elim (found_from (k + 1) (pick k (what []) best) (λ rest. what (u ∷ rest)) us) [
-    inl h ↦ none_yet k best _ what u us (what []) refl h
-  | inr p ↦ inr (record { count = suc p.count; piece = p.piece; found_is = p.found_is ∙ ap (λ (i : ℕ). Some (i, p.piece)) (omega arith); within = omega (arith, p.within); is_piece = p.is_piece; longest = none_longer what u us p.count p.longest }) ]
+  | inl h ↦ none_yet k best _ what u us (what []) refl h
+  | inr p ↦ inr (record { count = suc p.count; piece = p.piece; found_is = p.found_is ∙ ap (λ (i : ℕ). Some (i, p.piece)) (omega arith); within = omega (arith, p.within); is_piece = p.is_piece; longest = none_longer what u us p.count p.longest })
+]
 
 -- the walk from the beginning finds the longest piece
 pub last_is_longest : (what : List ℕ → Option Lexeme) (us : List ℕ) (found : Option (ℕ × Lexeme)) → found ≡ last_from 0 None what us → Longest what us found
 last_is_longest what us None e = elim (found_from 0 None what us) [
-    inl h ↦ h.none
-  | inr p ↦ absurd (let q : ◌≡◌ {A = Option (ℕ × Lexeme)} None (Some (0 + p.count, p.piece)) = e ∙ p.found_is in cc) ]
+  | inl h ↦ h.none
+  | inr p ↦ absurd (let q : ◌≡◌ {A = Option (ℕ × Lexeme)} None (Some (0 + p.count, p.piece)) = e ∙ p.found_is in cc)
+]
 last_is_longest what us (Some found) e = elim (found_from 0 None what us) [
-    inl h ↦ absurd (let q : ◌≡◌ {A = Option (ℕ × Lexeme)} (Some found) None = e ∙ h.same in cc)
+  | inl h ↦ absurd (let q : ◌≡◌ {A = Option (ℕ × Lexeme)} (Some found) None = e ∙ h.same in cc)
   | inr p ↦ let q : ◌≡◌ {A = Option (ℕ × Lexeme)} (Some found) (Some (p.count, p.piece)) = e ∙ p.found_is ∙ ap (λ (i : ℕ). Some (i, p.piece)) (omega arith) in
-      subst (Longest what us) (sym q) (p.within, p.is_piece, p.longest) ]
+      subst (Longest what us) (sym q) (p.within, p.is_piece, p.longest)
+]
 
 -- a walk sees no more of what it asks for than its values
 pub last_same : (k : ℕ) (best : Option (ℕ × Lexeme)) (f g : List ℕ → Option Lexeme) (us : List ℕ) → ((rest : List ℕ) → f rest ≡ g rest) → last_from k best f us ≡ last_from k best g us
@@ -78,9 +81,10 @@ last_dead k best f (u ∷ us) h = last_dead (k + 1) (pick k (f []) best) (λ res
 
 -- the same step at a list that is seen as its first unit and the rest
 pub walk_on : (k whole : ℕ) (best found wanted : Option (ℕ × Lexeme)) (f g : List ℕ → Option Lexeme) (here : Option Lexeme) (u : ℕ) (all us : List ℕ) → all ≡ u ∷ us → (last_from k best f all ≡ wanted) × (k + length all ≡ whole) → here ≡ f [] → found ≡ pick k here best → ((rest : List ℕ) → f (u ∷ rest) ≡ g rest) → (last_from (k + 1) found g us ≡ wanted) × (k + 1 + length us ≡ whole)
-walk_on k whole best found wanted f g here u all us e i a b h =
-    (sym (last_on k (k + 1) best found f g here u us refl a b h) ∙ ap (λ (xs : List ℕ). last_from k best f xs) (sym e) ∙ i.0,
-     let q : length all ≡ length us + 1 = ap length e ∙ omega arith in omega (arith, i.1))
+walk_on k whole best found wanted f g here u all us e i a b h = (
+  sym (last_on k (k + 1) best found f g here u us refl a b h) ∙ ap (λ (xs : List ℕ). last_from k best f xs) (sym e) ∙ i.0,
+  let q : length all ≡ length us + 1 = ap length e ∙ omega arith in omega (arith, i.1),
+)
 
 -- the walk at its end
 pub walk_end : (k : ℕ) (best found wanted : Option (ℕ × Lexeme)) (f : List ℕ → Option Lexeme) (here : Option Lexeme) (all : List ℕ) → length all ≡ 0 → last_from k best f all ≡ wanted → here ≡ f [] → found ≡ pick k here best → found ≡ wanted

@@ -56,7 +56,7 @@ pub record Cut (mode : Mode) (rest piece others : List ℕ) (n ends : ℕ) (what
 follows : (file : ℕ) (mode next : Mode) (line place : ℕ) (rest piece others : List ℕ) (n ends : ℕ) (what : Lexeme) → Cut mode rest piece others n ends what → (answer : Answer) → Lexes file (spot_at next (line + ends) (place + n)) others answer → Lexes file (behind (spot_at mode line place) next (take n rest)) (drop n rest) answer
 follows file mode next line place rest piece others n ends what cut answer h =
     let s : spot_at next (line + ends) (place + n) ≡ behind (spot_at mode line place) next piece =
-        same_spot next (line + ends) (line + line_ends piece) (place + n) (place + length piece) (ap (λ (x : ℕ). line + x) cut.ends_is) (ap (λ (x : ℕ). place + x) (sym cut.length_is)) in
+    same_spot next (line + ends) (line + line_ends piece) (place + n) (place + length piece) (ap (λ (x : ℕ). line + x) cut.ends_is) (ap (λ (x : ℕ). place + x) (sym cut.length_is)) in
     let at_piece : Lexes file (behind (spot_at mode line place) next piece) others answer = subst (λ (spot : Spot). Lexes file spot others answer) s h in
     let at_others : Lexes file (behind (spot_at mode line place) next piece) (drop n rest) answer = subst (λ (us : List ℕ). Lexes file (behind (spot_at mode line place) next piece) us answer) cut.others_is at_piece in
     subst (λ (us : List ℕ). Lexes file (behind (spot_at mode line place) next us) (drop n rest) answer) cut.piece_is at_others
@@ -68,7 +68,8 @@ pub on_blank : (file : ℕ) (text : List ℕ) (tokens : List (token.Token × Spa
 on_blank file text tokens mode line place rest piece others n ends what m r cut within e z = record {
   goes = λ answer h. r.goes answer (blank n what cut.longest (ap (meaning what) (sym cut.piece_is) ∙ sym e ∙ z) (follows file mode mode line place rest piece others n ends what cut answer h));
   places = omega (arith, len_left n rest others cut.others_is, r.places);
-  lines = omega (arith, cut.ends_within, cut.length_is, r.lines) }
+  lines = omega (arith, cut.ends_within, cut.length_is, r.lines);
+}
 
 pub on_token : (file : ℕ) (text : List ℕ) (tokens after : List (token.Token × Span)) (mode next : Mode) (line place : ℕ) (rest piece others : List ℕ) (n ends : ℕ) (what : Lexeme) (m : Meaning) (t : token.Token) → Reads file text tokens (spot_at mode line place) rest → Cut mode rest piece others n ends what → n ≤ length rest → m ≡ meaning what piece → m ≡ Token t → next ≡ mode_behind mode t → after ≡ tokens ++ (t, span_of file (spot_at mode line place) n) ∷ [] → Reads file text after (spot_at next (line + ends) (place + n)) others
 on_token file text tokens after mode next line place rest piece others n ends what m t r cut within e z q a = record {
@@ -77,7 +78,8 @@ on_token file text tokens after mode next line place rest piece others n ends wh
       let whole = r.goes _ step in
       subst (λ (list : List (token.Token × Span)). Lexes file start text (prefixed list answer)) (sym a) (subst (Lexes file start text) (one_more tokens (t, span_of file (spot_at mode line place) n) answer) whole);
   places = omega (arith, len_left n rest others cut.others_is, r.places);
-  lines = omega (arith, cut.ends_within, cut.length_is, r.lines) }
+  lines = omega (arith, cut.ends_within, cut.length_is, r.lines);
+}
 
 -- a fault is told
 told : (file : ℕ) (text : List ℕ) (fault : PieceFault) (span : Span) → Lexes file start text (Err (fault_at fault span)) → IsLexed file text (Err (fault_at fault span))

@@ -1,14 +1,15 @@
 //! The text of a source file, its tokens and its tree.
 #![tactic(auto)]
 
-mod lexer;
+mod escape;
 mod lexeme;
+mod lexer;
 mod scan;
-mod value;
 #[cfg(test)]
 mod tests;
 mod text;
 mod token;
+mod value;
 
 pub use lexer::lex;
 pub use text::{TextFault, text_of_bytes};

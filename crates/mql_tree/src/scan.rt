@@ -5,7 +5,6 @@ ghost use Rattle.mql_tree.specs.Longest.{Longest, pick, last_from};
 ghost use Rattle.std.specs.Prelude.{true, false};
 ghost use Rattle.mql_tree.specs.Lexeme.{is_digit, is_hex_digit, is_letter, is_word_unit, is_blank, is_in_line, is_exponent_mark, close_of, has_escapes, unclosed, inside, whole, fraction, block, only, some_only, marked, zero, point, exponent, slash, line_feed, continued, line_end, backslash, quotation, angle, same_key, number_from, sign_at, lexeme};
 ghost use Rattle.mql_tree.specs.Onward.{after};
-
 ghost use Rattle.mql_tree.specs.declared.lexeme.Lexeme.TheVariants.{Name, Double, Hexadecimal, Blank};
 
 use crate::lexeme::{Lexeme, Mode, Quote, SIGNS, SignKey};
@@ -199,42 +198,66 @@ fn block_step(star: bool, unit: u16) -> State
 fn word_step(unit: u16) -> State
     ensures { (rest : List ℕ) → only is_word_unit Name (unit ∷ rest) ≡ after result rest }
 {
-    if is_word_unit(unit) { State::Word } else { State::Dead }
+    if is_word_unit(unit) {
+        State::Word
+    } else {
+        State::Dead
+    }
 }
 
 /// The state one unit on, behind a first `D` or `C`.
 fn marked_step(quote: Quote, unit: u16) -> State
     ensures { (rest : List ℕ) → marked quote (unit ∷ rest) ≡ after result rest }
 {
-    if unit == 39 { State::Inside(quote) } else { word_step(unit) }
+    if unit == 39 {
+        State::Inside(quote)
+    } else {
+        word_step(unit)
+    }
 }
 
 /// The state one unit on, behind a first `0`.
 fn zero_step(unit: u16) -> State
     ensures { (rest : List ℕ) → zero (unit ∷ rest) ≡ after result rest }
 {
-    if unit == 120 || unit == 88 { State::HexMark } else { whole_step(unit) }
+    if unit == 120 || unit == 88 {
+        State::HexMark
+    } else {
+        whole_step(unit)
+    }
 }
 
 /// The state one unit on, behind a first point.
 fn point_step(unit: u16) -> State
     ensures { (rest : List ℕ) → point (unit ∷ rest) ≡ after result rest }
 {
-    if is_digit(unit) { State::Fraction } else { State::Two(46, unit) }
+    if is_digit(unit) {
+        State::Fraction
+    } else {
+        State::Two(46, unit)
+    }
 }
 
 /// The state one unit on, where a digit of an exponent has to follow.
 fn some_digit_step(unit: u16) -> State
     ensures { (rest : List ℕ) → some_only is_digit Double (unit ∷ rest) ≡ after result rest }
 {
-    if is_digit(unit) { State::Exponent } else { State::Dead }
+    if is_digit(unit) {
+        State::Exponent
+    } else {
+        State::Dead
+    }
 }
 
 /// The state one unit on, behind the mark of an exponent.
 fn exponent_step(unit: u16) -> State
     ensures { (rest : List ℕ) → exponent (unit ∷ rest) ≡ after result rest }
 {
-    if unit == 43 || unit == 45 { State::ExponentSign } else { some_digit_step(unit) }
+    if unit == 43 || unit == 45 {
+        State::ExponentSign
+    } else {
+        some_digit_step(unit)
+    }
 }
 
 /// The state one unit on, in an exponent.
@@ -242,14 +265,22 @@ fn exponent_step(unit: u16) -> State
 fn digit_step(unit: u16) -> State
     ensures { (rest : List ℕ) → only is_digit Double (unit ∷ rest) ≡ after result rest }
 {
-    if is_digit(unit) { State::Exponent } else { State::Dead }
+    if is_digit(unit) {
+        State::Exponent
+    } else {
+        State::Dead
+    }
 }
 
 /// The state one unit on, behind `0x`.
 fn some_hex_step(unit: u16) -> State
     ensures { (rest : List ℕ) → some_only is_hex_digit Hexadecimal (unit ∷ rest) ≡ after result rest }
 {
-    if is_hex_digit(unit) { State::Hex } else { State::Dead }
+    if is_hex_digit(unit) {
+        State::Hex
+    } else {
+        State::Dead
+    }
 }
 
 /// The state one unit on, in a hexadecimal number.
@@ -257,7 +288,11 @@ fn some_hex_step(unit: u16) -> State
 fn hex_step(unit: u16) -> State
     ensures { (rest : List ℕ) → only is_hex_digit Hexadecimal (unit ∷ rest) ≡ after result rest }
 {
-    if is_hex_digit(unit) { State::Hex } else { State::Dead }
+    if is_hex_digit(unit) {
+        State::Hex
+    } else {
+        State::Dead
+    }
 }
 
 /// The state one unit on, behind a first `/`.
@@ -278,21 +313,33 @@ fn slash_step(unit: u16) -> State
 fn line_step(unit: u16) -> State
     ensures { (rest : List ℕ) → only is_in_line Blank (unit ∷ rest) ≡ after result rest }
 {
-    if is_in_line(unit) { State::LineComment } else { State::Dead }
+    if is_in_line(unit) {
+        State::LineComment
+    } else {
+        State::Dead
+    }
 }
 
 /// The state one unit on, where a line has to end.
 fn feed_step(unit: u16) -> State
     ensures { (rest : List ℕ) → line_feed (unit ∷ rest) ≡ after result rest }
 {
-    if unit == 10 { State::Ended(Lexeme::Blank) } else { State::Dead }
+    if unit == 10 {
+        State::Ended(Lexeme::Blank)
+    } else {
+        State::Dead
+    }
 }
 
 /// The state one unit on, behind a `\\` that continues a directive.
 fn continued_step(unit: u16) -> State
     ensures { (rest : List ℕ) → continued (unit ∷ rest) ≡ after result rest }
 {
-    if unit == 13 { State::ContinuedReturn } else { feed_step(unit) }
+    if unit == 13 {
+        State::ContinuedReturn
+    } else {
+        feed_step(unit)
+    }
 }
 
 /// The state one unit on.
@@ -523,7 +570,11 @@ fn walk(text: &[u16], place: usize, start: State) -> Option<(usize, Lexeme)>
     better(count, lexeme_at(state), best)
 }
 
-fn better(count: usize, here: Option<Lexeme>, best: Option<(usize, Lexeme)>) -> Option<(usize, Lexeme)>
+fn better(
+    count: usize,
+    here: Option<Lexeme>,
+    best: Option<(usize, Lexeme)>,
+) -> Option<(usize, Lexeme)>
     ensures { result ≡ pick count here best }
 {
     match here {

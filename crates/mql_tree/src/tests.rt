@@ -1,5 +1,5 @@
 //! Worked cases, and that a call with memory answers Ok.
-use crate::{TextFault, text_of_bytes};
+use crate::{TextFault, Token, lex, text_of_bytes};
 use std::alloc::Global;
 use std::test::Fail;
 
@@ -41,5 +41,98 @@ fn texts_of_bytes(rt: HostRuntime) -> Result<(), Fail> {
         text_of_bytes(alloc, more.as_slice()).err(),
         Some(TextFault::TooLong)
     );
+    Ok(())
+}
+
+/// The name of a token and its value, so that a table can list them.
+fn shown(alloc: Global, token: &Token) -> Result<String, Fail> {
+    let text = match token {
+        Token::Name(name) => format!(in alloc; "name {:?}", name.as_slice())?,
+        Token::Int { value, kind } => format!(in alloc; "{value} {kind:?}")?,
+        Token::Double(number) => format!(in alloc; "double {}", number.units())?,
+        Token::Str(units) => format!(in alloc; "str {:?}", units.as_slice())?,
+        Token::Sign(number) => format!(in alloc; "sign {number}")?,
+        Token::IncludeName(name) => format!(in alloc; "file {:?}", name.as_slice())?,
+        Token::LineEnd => format!(in alloc; "end")?,
+    };
+    Ok(text)
+}
+
+/// The tokens of a text, or its fault, in one line.
+fn lexed(alloc: Global, source: &str) -> Result<String, Fail> {
+    let text = text_of_bytes(alloc, source.as_bytes())?;
+    let mut line = String::new(alloc);
+    if text.len() > 1_048_576 {
+        return Ok(line);
+    }
+    match lex(alloc, 0, &text) {
+        Ok(tokens) => {
+            for pair in tokens.as_slice() {
+                let one = shown(alloc, &pair.0)?;
+                line.push_str(one.as_str())?;
+                line.push_str("; ")?;
+            }
+        }
+        Err(fault) => line = format!(in alloc; "{fault}")?,
+    }
+    Ok(line)
+}
+
+#[test]
+fn spellings(rt: HostRuntime) -> Result<(), Fail> {
+    let alloc: Global = rt.alloc();
+    let table = [
+        ("", ""),
+        ("a1 _b", "name [97, 49]; name [95, 98]; "),
+        ("D C1", "name [68]; name [67, 49]; "),
+        (
+            "0 2147483647 2147483648",
+            "0 Int; 2147483647 Int; 2147483648 Long; ",
+        ),
+        (
+            "9223372036854775808 0x7fffffff 0XFFFFFFFF",
+            "9223372036854775808 Ulong; 2147483647 Int; 4294967295 Uint; ",
+        ),
+        (
+            "0x100000000 0x8000000000000000",
+            "4294967296 Long; 9223372036854775808 Ulong; ",
+        ),
+        ("18446744073709551616", "a number is too large at line 1"),
+        ("a>>=b", "name [97]; sign 39; name [98]; "),
+        ("::<<=<=<", "sign 10; sign 38; sign 22; sign 21; "),
+        ("a/*b*/c", "name [97]; name [99]; "),
+        ("/* /* */ x", "name [120]; "),
+        ("// x\ny", "name [121]; "),
+        ("\n/* x", "an open comment at line 2"),
+        ("\"a\\n\\x41g\\\\\"", "str [97, 10, 65, 103, 92]; "),
+        ("\"\\x12345\"", "str [4660, 53]; "),
+        ("\"a\\q\"", "no token at line 1"),
+        ("x\n\"ab\n\"", "an open string at line 2"),
+        ("'a' '\\'' '\\0'", "97 Ushort; 39 Ushort; 0 Ushort; "),
+        ("'ab'", "no token at line 1"),
+        ("''", "no token at line 1"),
+        (
+            "#include \"a\\b.mqh\"\nx",
+            "sign 45; name [105, 110, 99, 108, 117, 100, 101]; file [97, 92, 98, 46, 109, 113, 104]; end; name [120]; ",
+        ),
+        (
+            "#include <T>\n\"a\"",
+            "sign 45; name [105, 110, 99, 108, 117, 100, 101]; file [84]; end; str [97]; ",
+        ),
+        (
+            "#define A \\\n B\nC",
+            "sign 45; name [100, 101, 102, 105, 110, 101]; name [65]; name [66]; end; name [67]; ",
+        ),
+        ("a\\\nb", "no token at line 1"),
+        ("a\n\n@ $", "no token at line 3"),
+        (
+            "a123456789012345678901234567890123456789012345678901234567890123",
+            "a name is too long at line 1",
+        ),
+    ];
+    for (source, want) in table {
+        let got = lexed(alloc, source)?;
+        assert_eq!(rt; got.as_str(), want, "{source:?}");
+    }
     Ok(())
 }

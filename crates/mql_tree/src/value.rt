@@ -1,11 +1,12 @@
 //! What a piece of text means: nothing, a token or a fault.
 ghost use Rattle.std.specs.Prelude.{◌≡◌, ◌+◌, ◌*◌, ◌-◌, ◌^◌, ◌<◌, ◌≤◌, length, take, drop, IfOk, MatchOption, Some};
-ghost use Rattle.mql_tree.specs.Value.{digit_value, value_from, decimal, hexadecimal, named, between, quoted, meaning};
-
+ghost use Rattle.mql_tree.specs.Value.{digit_value, value_from, decimal, hexadecimal, named, between, quoted, string, character, text_of, meaning};
 ghost use Rattle.mql_tree.specs.declared.token.Token.TheVariants as tokens;
+ghost use Rattle.mql_tree.specs.declared.escape.Escape.TheVariants as escapes;
 ghost use Rattle.mql_tree.specs.declared.value.Meaning.TheVariants as meanings;
 
 use crate::Token;
+use crate::escape::{digit_value, spelled_text};
 use crate::lexeme::{Lexeme, Quote};
 use fx8::{IntKind, OutOfMemory, Text};
 use std::alloc::Global;
@@ -26,18 +27,6 @@ pub enum Meaning {
     Nothing,
     Token(Token),
     Fault(PieceFault),
-}
-
-fn digit_value(unit: u16) -> u16
-    ensures { result ≡ digit_value unit }
-{
-    if unit <= 57 {
-        unit.saturating_sub(48)
-    } else if 97 <= unit {
-        unit - 87
-    } else {
-        unit.saturating_sub(55)
-    }
 }
 
 /// The number with one digit more, where it fits 64 bits.
@@ -72,9 +61,18 @@ fn decimal(digits: &[u16]) -> Meaning
 {
     match number(10, digits) {
         None => Meaning::Fault(PieceFault::NumberTooLarge),
-        Some(value) if value < 0x8000_0000 => Meaning::Token(Token::Int { value, kind: IntKind::Int }),
-        Some(value) if value < 0x8000_0000_0000_0000 => Meaning::Token(Token::Int { value, kind: IntKind::Long }),
-        Some(value) => Meaning::Token(Token::Int { value, kind: IntKind::Ulong }),
+        Some(value) if value < 0x8000_0000 => Meaning::Token(Token::Int {
+            value,
+            kind: IntKind::Int,
+        }),
+        Some(value) if value < 0x8000_0000_0000_0000 => Meaning::Token(Token::Int {
+            value,
+            kind: IntKind::Long,
+        }),
+        Some(value) => Meaning::Token(Token::Int {
+            value,
+            kind: IntKind::Ulong,
+        }),
     }
 }
 
@@ -85,10 +83,22 @@ fn hexadecimal(digits: &[u16]) -> Meaning
 {
     match number(16, digits) {
         None => Meaning::Fault(PieceFault::NumberTooLarge),
-        Some(value) if value < 0x8000_0000 => Meaning::Token(Token::Int { value, kind: IntKind::Int }),
-        Some(value) if value < 0x1_0000_0000 => Meaning::Token(Token::Int { value, kind: IntKind::Uint }),
-        Some(value) if value < 0x8000_0000_0000_0000 => Meaning::Token(Token::Int { value, kind: IntKind::Long }),
-        Some(value) => Meaning::Token(Token::Int { value, kind: IntKind::Ulong }),
+        Some(value) if value < 0x8000_0000 => Meaning::Token(Token::Int {
+            value,
+            kind: IntKind::Int,
+        }),
+        Some(value) if value < 0x1_0000_0000 => Meaning::Token(Token::Int {
+            value,
+            kind: IntKind::Uint,
+        }),
+        Some(value) if value < 0x8000_0000_0000_0000 => Meaning::Token(Token::Int {
+            value,
+            kind: IntKind::Long,
+        }),
+        Some(value) => Meaning::Token(Token::Int {
+            value,
+            kind: IntKind::Ulong,
+        }),
     }
 }
 
@@ -128,12 +138,44 @@ fn quoted(alloc: Global, quote: Quote, piece: &[u16]) -> Result<Meaning, OutOfMe
     ensures { IfOk result (λ means. means ≡ quoted quote piece.now) }
 {
     match quote {
-        Quote::Str => Ok(Meaning::Fault(PieceFault::NoToken)),
-        Quote::Char => Ok(Meaning::Fault(PieceFault::NoToken)),
+        Quote::Str => string(alloc, piece),
+        Quote::Char => character(alloc, piece),
         Quote::Date => Ok(Meaning::Fault(PieceFault::NoToken)),
         Quote::Color => Ok(Meaning::Fault(PieceFault::NoToken)),
         Quote::File => included(alloc, piece),
         Quote::Library => included(alloc, piece),
+    }
+}
+
+/// A string.
+fn string(alloc: Global, piece: &[u16]) -> Result<Meaning, OutOfMemory>
+    ensures { IfOk result (λ means. means ≡ string (text_of escapes.Plain (between piece.now))) }
+{
+    match spelled_text(alloc, between(piece))? {
+        Some(text) => Ok(Meaning::Token(Token::Str(text))),
+        None => Ok(Meaning::Fault(PieceFault::NoToken)),
+    }
+}
+
+/// A character.
+fn character(alloc: Global, piece: &[u16]) -> Result<Meaning, OutOfMemory>
+    ensures { IfOk result (λ means. means ≡ character (text_of escapes.Plain (between piece.now))) }
+{
+    match spelled_text(alloc, between(piece))? {
+        Some(text) => Ok(one_unit(text.as_slice())),
+        None => Ok(Meaning::Fault(PieceFault::NoToken)),
+    }
+}
+
+fn one_unit(text: &[u16]) -> Meaning
+    ensures { result ≡ character (Some text.now) }
+{
+    match text {
+        [unit] => Meaning::Token(Token::Int {
+            value: u64::from(*unit),
+            kind: IntKind::Ushort,
+        }),
+        _ => Meaning::Fault(PieceFault::NoToken),
     }
 }
 
