@@ -3,3 +3,4 @@ pub mod LongestPiece
 pub mod Digits
 pub mod Reading
 pub mod Escapes
+pub mod Powers

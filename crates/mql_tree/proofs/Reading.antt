@@ -13,7 +13,7 @@ use Rattle.mql_tree.specs.declared.value.Meaning.{Meaning}
 use Rattle.mql_tree.specs.declared.value.Meaning.TheVariants.{Nothing, Token, Fault}
 use Rattle.mql_tree.specs.Lexeme.{lexeme}
 use Rattle.mql_tree.specs.Longest.{Longest}
-use Rattle.mql_tree.specs.Value.{meaning}
+use Rattle.mql_tree.specs.Pieces.{meaning}
 use Rattle.mql_tree.specs.Tokens.{Spot, behind, mode_behind, line_ends, span_of, fault_at, prefixed, start, Lexes, ended, blank, spelled, broken, nothing, IsLexed}
 
 abbrev pub Answer : Type 0

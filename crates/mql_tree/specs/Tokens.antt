@@ -13,7 +13,7 @@ use Rattle.mql_tree.specs.declared.value.PieceFault.TheVariants as faults
 use Rattle.mql_tree.specs.declared.value.Meaning.TheVariants.{Nothing, Token, Fault}
 use Rattle.mql_tree.specs.Lexeme.{lexeme}
 use Rattle.mql_tree.specs.Longest.{Longest}
-use Rattle.mql_tree.specs.Value.{meaning}
+use Rattle.mql_tree.specs.Pieces.{meaning}
 
 -- where the next piece stands, behind a token: `#` begins a directive, and its line's end ends it
 -- (MQL5 Reference, Preprocessor)

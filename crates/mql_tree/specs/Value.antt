@@ -126,25 +126,3 @@ IsInRange (escapes.Four v) = Unit {0}
 -- a text behind what was read of it
 abbrev pub put_behind : List ℕ → Option (List ℕ) → Option (List ℕ)
 put_behind front text = option_map (λ us. front ++ us) text
-
--- what a text between quotes means, by the quotes (MQL5 Reference, Including Files)
-unfoldable pub quoted : Quote → List ℕ → Meaning
-quoted quotes.Str us = string (text_of escapes.Plain (between us))
-quoted quotes.Char us = character (text_of escapes.Plain (between us))
-quoted quotes.Date us = Fault faults.NoToken
-quoted quotes.Color us = Fault faults.NoToken
-quoted quotes.File us = Token (tokens.IncludeName (between us))
-quoted quotes.Library us = Token (tokens.IncludeName (between us))
-
--- what a piece means
-unfoldable pub meaning : Lexeme → List ℕ → Meaning
-meaning pieces.Blank us = Nothing
-meaning pieces.OpenComment us = Fault faults.OpenComment
-meaning pieces.Name us = named us
-meaning pieces.Decimal us = decimal (value_from 10 0 us)
-meaning pieces.Hexadecimal us = hexadecimal (value_from 16 0 (drop 2 us))
-meaning pieces.Double us = Fault faults.NoToken
-meaning (pieces.Quoted quote) us = quoted quote us
-meaning pieces.OpenString us = Fault faults.OpenString
-meaning (pieces.Sign number) us = Token (tokens.Sign number)
-meaning pieces.LineEnd us = Token tokens.LineEnd

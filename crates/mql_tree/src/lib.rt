@@ -4,6 +4,7 @@
 mod escape;
 mod lexeme;
 mod lexer;
+mod real;
 mod scan;
 #[cfg(test)]
 mod tests;

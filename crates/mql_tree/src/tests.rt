@@ -98,6 +98,32 @@ fn spellings(rt: HostRuntime) -> Result<(), Fail> {
             "4294967296 Long; 9223372036854775808 Ulong; ",
         ),
         ("18446744073709551616", "a number is too large at line 1"),
+        (
+            "1.5 .5 2. 1e-3",
+            "double 150000000; double 50000000; double 200000000; double 100000; ",
+        ),
+        (
+            "1e3 1.5E+2 0e99999999999999999999",
+            "double 100000000000; double 15000000000; double 0; ",
+        ),
+        (
+            "0.000000005 0.0000000049 0.000000015",
+            "double 1; double 0; double 2; ",
+        ),
+        (
+            "1e-99999999999999999999 00.5",
+            "double 0; double 50000000; ",
+        ),
+        (
+            "92233720368.54775807 1.",
+            "double 9223372036854775807; double 100000000; ",
+        ),
+        ("92233720368.54775808", "a number is too large at line 1"),
+        ("1e99999999999999999999", "a number is too large at line 1"),
+        (
+            "1e x 0x g 1.2.3",
+            "1 Int; name [101]; name [120]; 0 Int; name [120]; name [103]; double 120000000; double 30000000; ",
+        ),
         ("a>>=b", "name [97]; sign 39; name [98]; "),
         ("::<<=<=<", "sign 10; sign 38; sign 22; sign 21; "),
         ("a/*b*/c", "name [97]; name [99]; "),

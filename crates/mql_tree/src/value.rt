@@ -1,6 +1,7 @@
 //! What a piece of text means: nothing, a token or a fault.
 ghost use Rattle.std.specs.Prelude.{◌≡◌, ◌+◌, ◌*◌, ◌-◌, ◌^◌, ◌<◌, ◌≤◌, length, take, drop, IfOk, MatchOption, Some};
-ghost use Rattle.mql_tree.specs.Value.{digit_value, value_from, decimal, hexadecimal, named, between, quoted, string, character, text_of, meaning};
+ghost use Rattle.mql_tree.specs.Value.{digit_value, value_from, decimal, hexadecimal, named, between, string, character, text_of};
+ghost use Rattle.mql_tree.specs.Pieces.{quoted, meaning};
 ghost use Rattle.mql_tree.specs.declared.token.Token.TheVariants as tokens;
 ghost use Rattle.mql_tree.specs.declared.escape.Escape.TheVariants as escapes;
 ghost use Rattle.mql_tree.specs.declared.value.Meaning.TheVariants as meanings;
@@ -8,6 +9,7 @@ ghost use Rattle.mql_tree.specs.declared.value.Meaning.TheVariants as meanings;
 use crate::Token;
 use crate::escape::{digit_value, spelled_text};
 use crate::lexeme::{Lexeme, Quote};
+use crate::real::real;
 use fx8::{IntKind, OutOfMemory, Text};
 use std::alloc::Global;
 
@@ -38,7 +40,7 @@ fn with_digit(base: u64, value: u64, digit: u16) -> Option<u64>
 }
 
 /// The number of these digits, where it fits 64 bits.
-fn number(base: u64, digits: &[u16]) -> Option<u64>
+pub(crate) fn number(base: u64, digits: &[u16]) -> Option<u64>
     requires { 1 ≤ base }
     ensures { MatchOption result (2 ^ 64 ≤ value_from base 0 digits.now) (λ value. value ≡ value_from base 0 digits.now) }
 {
@@ -133,7 +135,7 @@ fn behind_two(piece: &[u16]) -> &[u16]
 }
 
 /// What a text between quotes means.
-#[tactic(auto, unfolding(crate::specs::Value::quoted))]
+#[tactic(auto, unfolding(crate::specs::Pieces::quoted))]
 fn quoted(alloc: Global, quote: Quote, piece: &[u16]) -> Result<Meaning, OutOfMemory>
     ensures { IfOk result (λ means. means ≡ quoted quote piece.now) }
 {
@@ -188,8 +190,9 @@ fn included(alloc: Global, piece: &[u16]) -> Result<Meaning, OutOfMemory>
 }
 
 /// What a piece means.
-#[tactic(auto, unfolding(crate::specs::Value::meaning))]
+#[tactic(auto, unfolding(crate::specs::Pieces::meaning))]
 pub fn piece_meaning(alloc: Global, what: Lexeme, piece: &[u16]) -> Result<Meaning, OutOfMemory>
+    requires { length piece.now ≤ 1048576 }
     ensures { IfOk result (λ means. means ≡ meaning what piece.now) }
 {
     match what {
@@ -198,7 +201,7 @@ pub fn piece_meaning(alloc: Global, what: Lexeme, piece: &[u16]) -> Result<Meani
         Lexeme::Name => named(alloc, piece),
         Lexeme::Decimal => Ok(decimal(piece)),
         Lexeme::Hexadecimal => Ok(hexadecimal(behind_two(piece))),
-        Lexeme::Double => Ok(Meaning::Fault(PieceFault::NoToken)),
+        Lexeme::Double => real(alloc, piece),
         Lexeme::Quoted(quote) => quoted(alloc, quote, piece),
         Lexeme::OpenString => Ok(Meaning::Fault(PieceFault::OpenString)),
         Lexeme::Sign(number) => Ok(Meaning::Token(Token::Sign(number))),
