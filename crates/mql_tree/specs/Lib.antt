@@ -1,5 +1,6 @@
 pub mod Lexeme
 pub mod Longest
+pub mod Marked
 pub mod Onward
 pub mod Pieces
 pub mod Real

@@ -4,6 +4,7 @@
 mod escape;
 mod lexeme;
 mod lexer;
+mod marked;
 mod real;
 mod scan;
 #[cfg(test)]

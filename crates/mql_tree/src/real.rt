@@ -10,7 +10,7 @@ use fx8::{Fix8, OutOfMemory, Text};
 use std::alloc::Global;
 
 /// How many digits a text begins with.
-fn digits_len(units: &[u16]) -> usize
+pub fn digits_len(units: &[u16]) -> usize
     ensures value { result ≡ digits_len units.now }
     ensures within { result ≤ length units.now }
 {
@@ -27,7 +27,7 @@ fn digits_len(units: &[u16]) -> usize
 }
 
 #[tactic(auto, unfolding(crate::specs::Real::digits_front))]
-fn digits_front(units: &[u16]) -> &[u16]
+pub fn digits_front(units: &[u16]) -> &[u16]
     ensures value { result.now ≡ digits_front units.now }
     ensures within { length result.now ≤ length units.now }
 {
@@ -35,7 +35,7 @@ fn digits_front(units: &[u16]) -> &[u16]
 }
 
 #[tactic(auto, unfolding(crate::specs::Real::digits_rest))]
-fn digits_rest(units: &[u16]) -> &[u16]
+pub fn digits_rest(units: &[u16]) -> &[u16]
     ensures value { result.now ≡ digits_rest units.now }
     ensures within { length result.now ≤ length units.now }
 {
