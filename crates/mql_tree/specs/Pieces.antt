@@ -11,13 +11,14 @@ use Rattle.mql_tree.specs.declared.value.Meaning.{Meaning}
 use Rattle.mql_tree.specs.declared.value.Meaning.TheVariants.{Nothing, Token, Fault}
 use Rattle.mql_tree.specs.Value.{value_from, decimal, hexadecimal, named, between, text_of, string, character}
 use Rattle.mql_tree.specs.Real.{real}
+use Rattle.mql_tree.specs.Marked.{date_of, date_value, color_of, color_value}
 
 -- what a text between quotes means, by the quotes (MQL5 Reference, Including Files)
 unfoldable pub quoted : Quote → List ℕ → Meaning
 quoted quotes.Str us = string (text_of escapes.Plain (between us))
 quoted quotes.Char us = character (text_of escapes.Plain (between us))
-quoted quotes.Date us = Fault faults.NoToken
-quoted quotes.Color us = Fault faults.NoToken
+quoted quotes.Date us = date_of (date_value (drop 1 (between us)))
+quoted quotes.Color us = color_of (color_value (drop 1 (between us)))
 quoted quotes.File us = Token (tokens.IncludeName (between us))
 quoted quotes.Library us = Token (tokens.IncludeName (between us))
 

@@ -15,4 +15,4 @@ mod value;
 
 pub use lexer::lex;
 pub use text::{TextFault, text_of_bytes};
-pub use token::{LexFault, Span, Token, Tokens};
+pub use token::{LexFault, Span, Token, Tokens, Tree, TreeList};

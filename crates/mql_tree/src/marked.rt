@@ -2,10 +2,10 @@
 ghost use Rattle.std.specs.Prelude.{◌≡◌, ℕ, ◌+◌, ◌*◌, ◌<◌, ◌≤◌, List, length, IfSome, IsTrue, Some, None, option_map};
 ghost use Rattle.mql_tree.specs.Marked.{pair_end, behind_unit, at_the_end, channel, color_value, color_of, digit_pair, day_at, second_at, clock, clock_at, time_at, is_leap, month_days, days_before, leap_day, leap_days, is_day, day_number, moment, date_value, date_of};
 
-use crate::scan::is_digit;
-use crate::real::{digits_front, digits_len, digits_rest};
-use crate::value::{Meaning, PieceFault, number};
 use crate::Token;
+use crate::real::{digits_front, digits_len, digits_rest};
+use crate::scan::is_digit;
+use crate::value::{Meaning, PieceFault, number};
 use fx8::IntKind;
 
 /// What follows this unit.
@@ -286,7 +286,11 @@ fn moment(day: Day, time: Option<u64>) -> Option<u64>
 {
     match time {
         None => None,
-        Some(seconds) => if is_day(day) { Some(86400 * day_number(day) + seconds) } else { None },
+        Some(seconds) => if is_day(day) {
+            Some(86400 * day_number(day) + seconds)
+        } else {
+            None
+        },
     }
 }
 

@@ -67,3 +67,13 @@ impl From<OutOfMemory> for LexFault {
         LexFault::OutOfMemory
     }
 }
+
+/// A tree over tokens: a token by its place, or a node of a form of the grammar with its parts.
+#[derive(Debug, Drop)]
+pub enum Tree {
+    Leaf { token: u32 },
+    Node { form: u8, parts: TreeList },
+}
+
+/// Trees, as the parts of a node.
+pub type TreeList = ItemList<Tree>;

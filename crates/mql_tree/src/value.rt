@@ -9,6 +9,7 @@ ghost use Rattle.mql_tree.specs.declared.value.Meaning.TheVariants as meanings;
 use crate::Token;
 use crate::escape::{digit_value, spelled_text};
 use crate::lexeme::{Lexeme, Quote};
+use crate::marked::{color, date};
 use crate::real::real;
 use fx8::{IntKind, OutOfMemory, Text};
 use std::alloc::Global;
@@ -127,6 +128,17 @@ fn between(piece: &[u16]) -> &[u16]
     }
 }
 
+/// What stands between the quotes of a date or a color.
+fn behind_mark(piece: &[u16]) -> &[u16]
+    ensures { result.now ≡ drop 1 (between piece.now) }
+{
+    let text = between(piece);
+    match text.split_first() {
+        Some((_, inner)) => inner,
+        None => text,
+    }
+}
+
 /// The units from the third on.
 fn behind_two(piece: &[u16]) -> &[u16]
     ensures { result.now ≡ drop 2 piece.now }
@@ -142,8 +154,8 @@ fn quoted(alloc: Global, quote: Quote, piece: &[u16]) -> Result<Meaning, OutOfMe
     match quote {
         Quote::Str => string(alloc, piece),
         Quote::Char => character(alloc, piece),
-        Quote::Date => Ok(Meaning::Fault(PieceFault::NoToken)),
-        Quote::Color => Ok(Meaning::Fault(PieceFault::NoToken)),
+        Quote::Date => Ok(date(behind_mark(piece))),
+        Quote::Color => Ok(color(behind_mark(piece))),
         Quote::File => included(alloc, piece),
         Quote::Library => included(alloc, piece),
     }
