@@ -4,3 +4,4 @@ pub mod Digits
 pub mod Reading
 pub mod Escapes
 pub mod Powers
+pub mod OneAnswer

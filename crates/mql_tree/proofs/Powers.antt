@@ -30,7 +30,7 @@ past_end [] k h = refl
 past_end (d ∷ digits) zero h = absurd (omega arith)
 past_end (d ∷ digits) (suc k) h = past_end digits k (omega arith)
 
-before_or_past : (k n : ℕ) → (k < n) ⊎ (n ≤ k)
+pub before_or_past : (k n : ℕ) → (k < n) ⊎ (n ≤ k)
 before_or_past zero zero = inr (omega arith)
 before_or_past zero (suc n) = inl (omega arith)
 before_or_past (suc k) zero = inr (omega arith)

@@ -14,10 +14,7 @@ use Rattle.mql_tree.specs.declared.value.Meaning.TheVariants.{Nothing, Token, Fa
 use Rattle.mql_tree.specs.Lexeme.{lexeme}
 use Rattle.mql_tree.specs.Longest.{Longest}
 use Rattle.mql_tree.specs.Pieces.{meaning}
-use Rattle.mql_tree.specs.Tokens.{Spot, behind, mode_behind, line_ends, span_of, fault_at, prefixed, start, Lexes, ended, blank, spelled, broken, nothing, IsLexed}
-
-abbrev pub Answer : Type 0
-Answer = Result (List (token.Token × Span)) LexFault
+use Rattle.mql_tree.specs.Tokens.{Answer, Spot, behind, mode_behind, line_ends, span_of, fault_at, prefixed, start, Lexes, ended, blank, spelled, broken, nothing, IsLexed}
 
 -- what is read from the spot on, behind these tokens, is what is read of the whole text
 pub record Reads (file : ℕ) (text : List ℕ) (tokens : List (token.Token × Span)) (spot : Spot) (rest : List ℕ) : Type 0 where

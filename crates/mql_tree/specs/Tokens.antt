@@ -66,6 +66,10 @@ fault_at faults.NumberTooLarge span = NumberTooLarge span
 fault_at faults.OpenComment span = OpenComment span
 fault_at faults.OpenString span = OpenString span
 
+-- the tokens, or the first fault
+abbrev pub Answer : Type 0
+Answer = Result (List (token.Token × Span)) LexFault
+
 -- what is answered with these tokens in front
 abbrev pub prefixed : List (token.Token × Span) → Result (List (token.Token × Span)) LexFault → Result (List (token.Token × Span)) LexFault
 prefixed front (Ok rest) = Ok (front ++ rest)

@@ -2,7 +2,7 @@
 ghost use Rattle.std.specs.Prelude.{◌≡◌, ℕ, ◌+◌, ◌<◌, ◌≤◌, length, OnErr, IfOk, List, Some, None, Ok, Err};
 ghost use Rattle.mql_tree.specs.Lexeme.{lexeme};
 ghost use Rattle.mql_tree.specs.Longest.{Longest};
-ghost use Rattle.mql_tree.specs.Tokens.{behind_hash, behind_plain, behind_other, mode_behind, line_ends, span_of, fault_at, start, Lexes, IsLexed};
+ghost use Rattle.mql_tree.specs.Tokens.{behind_hash, behind_plain, behind_other, mode_behind, line_ends, span_of, fault_at, start, Answer, Lexes, IsLexed};
 
 use crate::lexeme::{Lexeme, Mode};
 use crate::scan::longest;
@@ -138,3 +138,8 @@ pub fn lex(alloc: Global, file: u32, text: &Text) -> Result<Tokens, LexFault>
     }
     Ok(tokens)
 }
+
+/// A text has one answer: these tokens, or this first fault.
+pub fn one_answer()
+    ensures { (file : ℕ) (us : List ℕ) (a b : Answer) → Lexes file start us a → Lexes file start us b → a ≡ b }
+{}

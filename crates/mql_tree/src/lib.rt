@@ -13,6 +13,6 @@ mod text;
 mod token;
 mod value;
 
-pub use lexer::lex;
+pub use lexer::{lex, one_answer};
 pub use text::{TextFault, text_of_bytes};
 pub use token::{LexFault, Span, Token, Tokens, Tree, TreeList};
