@@ -1,9 +1,8 @@
 -- A text has one answer.
-use Rattle.std.proofs.Common.{◌≡◌, ℕ, zero, suc, ◌+◌, ◌<◌, ◌≤◌, ◌⊎◌, inl, inr, List, [], ◌∷◌, ◌++◌, length, take, drop, refl, sym, ap, subst, ◌∙◌, arith, Option, Some, None, Result, Ok, Err}
+use Rattle.std.proofs.Common.{◌≡◌, ℕ, zero, suc, ◌<◌, ◌≤◌, inl, inr, List, [], ◌∷◌, take, drop, refl, sym, ap, subst, ◌∙◌, arith, Option, Some, None, Err}
 use Rattle.mql_tree.proofs.Powers.{before_or_past}
 use Rattle.mql_tree.specs.declared.lexeme.Lexeme.{Lexeme}
 use Rattle.mql_tree.specs.declared.lexeme.Mode.{Mode}
-use Rattle.mql_tree.specs.declared.token.Span.{Span}
 use Rattle.mql_tree.specs.declared.token.Token as token
 use Rattle.mql_tree.specs.declared.value.PieceFault.{PieceFault}
 use Rattle.mql_tree.specs.declared.value.Meaning.{Meaning}

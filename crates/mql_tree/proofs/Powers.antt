@@ -1,5 +1,5 @@
 -- Numbers with zeros at their end.
-use Rattle.std.proofs.Common.{◌≡◌, ◌≢◌, ℕ, zero, suc, ◌+◌, ◌-◌, ◌*◌, ◌^◌, ◌<◌, ◌≤◌, ◌⊎◌, inl, inr, Bool, cond, nat_le, min, arith, subst, refl, sym, ap, ◌∙◌, List, [], ◌∷◌, length, take, slice_index, Option, Some, None, option_map, MatchOption}
+use Rattle.std.proofs.Common.{◌≡◌, ℕ, zero, suc, ◌+◌, ◌-◌, ◌*◌, ◌^◌, ◌<◌, ◌≤◌, ◌⊎◌, inl, inr, Bool, cond, nat_le, min, arith, subst, refl, sym, ap, ◌∙◌, List, [], ◌∷◌, length, take, slice_index, Option, Some, None, option_map, MatchOption}
 use Rattle.std.proofs.Math.Nat.{pow-le-pow_right, le-mul_of_pos_right, one-le-pow}
 use Rattle.std.proofs.lemmas.List.{take_min}
 use Rattle.mql_tree.specs.Value.{value_from}

@@ -1,6 +1,6 @@
 -- A text is read piece by piece.
-use Rattle.std.proofs.Common.{◌≡◌, ℕ, ◌+◌, ◌-◌, ◌<◌, ◌≤◌, List, [], ◌∷◌, ◌++◌, length, take, drop, refl, sym, ap, subst, ◌∙◌, arith, append_assoc, append-nil, Option, Some, None, Result, Ok, Err}
-use Rattle.std.proofs.lemmas.List.{length-take, length-drop}
+use Rattle.std.proofs.Common.{◌≡◌, ℕ, ◌+◌, ◌-◌, ◌<◌, ◌≤◌, List, [], ◌∷◌, ◌++◌, length, take, drop, refl, sym, ap, subst, ◌∙◌, arith, append_assoc, append-nil, Some, None, Ok, Err}
+use Rattle.std.proofs.lemmas.List.{length-drop}
 use Rattle.mql_tree.specs.declared.lexeme.Lexeme.{Lexeme}
 use Rattle.mql_tree.specs.declared.lexeme.Mode.{Mode}
 use Rattle.mql_tree.specs.declared.token.Span.{Span}

@@ -1,5 +1,5 @@
 -- What a piece of text is, by its units. Each word says it of a whole piece; how the longest piece is found is not said here.
-use Rattle.std.specs.Prelude.{◌≡◌, ℕ, ◌+◌, ◌<◌, ◌≤◌, Bool, true, false, not, ◌==◌, ◌&&◌, ◌||◌, nat_lt, nat_le, List, [], ◌∷◌, length, take, Option, Some, None, option_map, position, if◌then◌else◌}
+use Rattle.std.specs.Prelude.{ℕ, ◌+◌, Bool, true, false, not, ◌==◌, ◌&&◌, ◌||◌, nat_le, List, [], ◌∷◌, Option, Some, None, option_map, if◌then◌else◌}
 use Rattle.mql_tree.specs.declared.lexeme.Quote.{Quote}
 use Rattle.mql_tree.specs.declared.lexeme.Quote.TheVariants.{Str, Char, Date, Color, File, Library}
 use Rattle.mql_tree.specs.declared.lexeme.Lexeme.{Lexeme}

@@ -1,5 +1,5 @@
 -- The values of dates and colors, from their fields.
-use Rattle.std.specs.Prelude.{◌≡◌, ℕ, ◌+◌, ◌-◌, ◌*◌, ◌/◌, ◌%◌, Bool, true, false, not, ◌==◌, ◌&&◌, ◌||◌, nat_lt, nat_le, List, [], ◌∷◌, length, drop, Option, Some, None, option_and_then, if◌then◌else◌}
+use Rattle.std.specs.Prelude.{ℕ, ◌+◌, ◌-◌, ◌*◌, ◌/◌, ◌%◌, Bool, not, ◌==◌, ◌&&◌, ◌||◌, nat_lt, nat_le, List, [], ◌∷◌, Option, Some, None, option_and_then, if◌then◌else◌}
 use Rattle.fx8.specs.declared.int_kind.IntKind.TheVariants as kinds
 use Rattle.mql_tree.specs.declared.token.Token.TheVariants as tokens
 use Rattle.mql_tree.specs.declared.value.PieceFault.TheVariants as faults

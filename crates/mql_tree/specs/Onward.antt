@@ -1,5 +1,5 @@
 -- What the state of a scan leaves open.
-use Rattle.std.specs.Prelude.{ℕ, Bool, true, false, List, [], ◌∷◌, Option, None, Some}
+use Rattle.std.specs.Prelude.{ℕ, true, false, List, ◌∷◌, Option, None}
 use Rattle.mql_tree.specs.declared.lexeme.Lexeme.{Lexeme}
 use Rattle.mql_tree.specs.declared.lexeme.Lexeme.TheVariants.{Blank, Name, Double, Hexadecimal}
 use Rattle.mql_tree.specs.declared.scan.State.{State}

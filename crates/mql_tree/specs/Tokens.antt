@@ -1,5 +1,5 @@
 -- Which tokens a text has, and where: blanks, comments and spellings in turn, each piece the longest that stands there.
-use Rattle.std.specs.Prelude.{◌≡◌, ℕ, ◌+◌, ◌<◌, Bool, ◌==◌, List, [], ◌∷◌, ◌++◌, length, take, drop, Option, Some, None, Result, Ok, Err, bytes_eq, codes, count_by, if◌then◌else◌}
+use Rattle.std.specs.Prelude.{◌≡◌, ℕ, ◌+◌, ◌<◌, ◌==◌, List, [], ◌∷◌, ◌++◌, length, take, drop, Some, None, Result, Ok, Err, bytes_eq, codes, count_by, if◌then◌else◌}
 use Rattle.mql_tree.specs.declared.lexeme.Lexeme.{Lexeme}
 use Rattle.mql_tree.specs.declared.lexeme.Mode.{Mode}
 use Rattle.mql_tree.specs.declared.lexeme.Mode.TheVariants.{Plain, Hash, Include, Directive}

@@ -1,20 +1,15 @@
 -- What a piece of text means.
-use Rattle.std.specs.Prelude.{◌≡◌, ℕ, ◌+◌, ◌-◌, ◌*◌, ◌^◌, Bool, true, false, ◌==◌, ◌&&◌, nat_lt, nat_le, List, [], ◌∷◌, length, take, drop, ◌<◌, ◌++◌, Option, Some, None, option_map, if◌then◌else◌}
+use Rattle.std.specs.Prelude.{ℕ, ◌+◌, ◌-◌, ◌*◌, ◌^◌, ◌==◌, nat_lt, nat_le, List, [], ◌∷◌, length, take, drop, ◌<◌, ◌++◌, Option, Some, None, option_map, if◌then◌else◌}
 use Rattle.fx8.specs.declared.int_kind.IntKind.TheVariants as kinds
-use Rattle.mql_tree.specs.declared.lexeme.Quote.{Quote}
-use Rattle.mql_tree.specs.declared.lexeme.Quote.TheVariants as quotes
-use Rattle.mql_tree.specs.declared.lexeme.Lexeme.{Lexeme}
-use Rattle.mql_tree.specs.declared.lexeme.Lexeme.TheVariants as pieces
 use Rattle.mql_tree.specs.declared.token.Token.TheVariants as tokens
 use Rattle.mql_tree.specs.declared.escape.Escape.{Escape}
 use Rattle.mql_tree.specs.declared.escape.Escape.TheVariants as escapes
 use Rattle.mql_tree.specs.declared.escape.Added.{Added}
 use Rattle.mql_tree.specs.declared.escape.Added.TheVariants as added
 use Rattle.mql_tree.specs.Lexeme.{is_hex_digit}
-use Rattle.mql_tree.specs.declared.value.PieceFault.{PieceFault}
 use Rattle.mql_tree.specs.declared.value.PieceFault.TheVariants as faults
 use Rattle.mql_tree.specs.declared.value.Meaning.{Meaning}
-use Rattle.mql_tree.specs.declared.value.Meaning.TheVariants.{Nothing, Token, Fault}
+use Rattle.mql_tree.specs.declared.value.Meaning.TheVariants.{Token, Fault}
 
 -- the value of a digit: `0` to `9`, `a` to `f`, `A` to `F` (MQL5 Reference, Integer Types)
 abbrev pub digit_value : ℕ → ℕ

@@ -1,4 +1,4 @@
-use Rattle.std.proofs.Common.{arith, length, ◌-◌}
+use Rattle.std.proofs.Common.{length, ◌-◌}
 use Rattle.mql_tree.proofs.Powers.{kept_none, kept_high, kept_some, zeros}
 use Rattle.mql_tree.proofs.real.kept.Goals as goal
 

@@ -1,4 +1,4 @@
-use Rattle.std.proofs.Common.{arith, ap, ◌∙◌, ◌≡◌, ◌+◌, length}
+use Rattle.std.proofs.Common.{arith, ap, ◌≡◌, ◌+◌, length}
 use Rattle.mql_tree.proofs.Powers.{real_by}
 use Rattle.mql_tree.proofs.real.real.Goals as goal
 

@@ -1,7 +1,5 @@
-use Rattle.std.proofs.Common.{◌≡◌, ◌<◌, ◌+◌, ℕ, List, length, drop, sym, ◌∙◌, ap, arith}
-use Rattle.std.proofs.lemmas.List.{length-drop}
-use Rattle.mql_tree.specs.Text.{front_len}
-use Rattle.mql_tree.proofs.Surrogates.{lone_end, lone_here, lone_on, search_on}
+use Rattle.std.proofs.Common.{sym, ◌∙◌, arith}
+use Rattle.mql_tree.proofs.Surrogates.{lone_end, lone_here, search_on}
 use Rattle.mql_tree.proofs.text.first_lone.Goals as goal
 
 pub returns-then-count-eq0 : goal.returns-then-count-eq0
