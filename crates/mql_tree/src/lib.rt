@@ -1,0 +1,18 @@
+//! The text of a source file, its tokens and its tree.
+#![tactic(auto)]
+
+mod escape;
+mod lexeme;
+mod lexer;
+mod marked;
+mod real;
+mod scan;
+#[cfg(test)]
+mod tests;
+mod text;
+mod token;
+mod value;
+
+pub use lexer::{lex, one_answer};
+pub use text::{TextFault, text_of_bytes};
+pub use token::{LexFault, Span, Token, Tokens, Tree, TreeList};

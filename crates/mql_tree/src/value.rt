@@ -1,0 +1,222 @@
+//! What a piece of text means: nothing, a token or a fault.
+ghost use Rattle.std.specs.Prelude.{◌≡◌, ◌+◌, ◌*◌, ◌-◌, ◌^◌, ◌<◌, ◌≤◌, length, take, drop, IfOk, MatchOption, Some};
+ghost use Rattle.mql_tree.specs.Value.{digit_value, value_from, decimal, hexadecimal, named, between, string, character, text_of};
+ghost use Rattle.mql_tree.specs.Pieces.{quoted, meaning};
+ghost use Rattle.mql_tree.specs.declared.token.Token.TheVariants as tokens;
+ghost use Rattle.mql_tree.specs.declared.escape.Escape.TheVariants as escapes;
+ghost use Rattle.mql_tree.specs.declared.value.Meaning.TheVariants as meanings;
+
+use crate::Token;
+use crate::escape::{digit_value, spelled_text};
+use crate::lexeme::{Lexeme, Quote};
+use crate::marked::{color, date};
+use crate::real::real;
+use fx8::{IntKind, OutOfMemory, Text};
+use std::alloc::Global;
+
+/// Why a piece means no token.
+#[derive(Clone, Copy, Debug, PartialEq, Eq)]
+pub enum PieceFault {
+    NoToken,
+    NameTooLong,
+    NumberTooLarge,
+    OpenComment,
+    OpenString,
+}
+
+/// What a piece means.
+#[derive(Debug, Drop)]
+pub enum Meaning {
+    Nothing,
+    Token(Token),
+    Fault(PieceFault),
+}
+
+/// The number with one digit more, where it fits 64 bits.
+fn with_digit(base: u64, value: u64, digit: u16) -> Option<u64>
+    ensures { MatchOption result (2 ^ 64 ≤ base * value + digit_value digit) (λ next. next ≡ base * value + digit_value digit) }
+{
+    let shifted = base.checked_mul(value)?;
+    shifted.checked_add(u64::from(digit_value(digit)))
+}
+
+/// The number of these digits, where it fits 64 bits.
+pub(crate) fn number(base: u64, digits: &[u16]) -> Option<u64>
+    requires { 1 ≤ base }
+    ensures { MatchOption result (2 ^ 64 ≤ value_from base 0 digits.now) (λ value. value ≡ value_from base 0 digits.now) }
+{
+    let mut value = 0u64;
+    let mut rest = digits;
+    while let Some((digit, others)) = rest.split_first() {
+        match with_digit(base, value, *digit) {
+            Some(next) => value = next,
+            None => return None,
+        }
+        rest = others;
+    }
+    Some(value)
+}
+
+/// A decimal literal: the first of `int`, `long` and `ulong` that holds it.
+#[tactic(auto, unfolding(crate::specs::Value::decimal))]
+fn decimal(digits: &[u16]) -> Meaning
+    ensures { result ≡ decimal (value_from 10 0 digits.now) }
+{
+    match number(10, digits) {
+        None => Meaning::Fault(PieceFault::NumberTooLarge),
+        Some(value) if value < 0x8000_0000 => Meaning::Token(Token::Int {
+            value,
+            kind: IntKind::Int,
+        }),
+        Some(value) if value < 0x8000_0000_0000_0000 => Meaning::Token(Token::Int {
+            value,
+            kind: IntKind::Long,
+        }),
+        Some(value) => Meaning::Token(Token::Int {
+            value,
+            kind: IntKind::Ulong,
+        }),
+    }
+}
+
+/// A hexadecimal literal: the first of `int`, `uint`, `long` and `ulong` that holds it.
+#[tactic(auto, unfolding(crate::specs::Value::hexadecimal))]
+fn hexadecimal(digits: &[u16]) -> Meaning
+    ensures { result ≡ hexadecimal (value_from 16 0 digits.now) }
+{
+    match number(16, digits) {
+        None => Meaning::Fault(PieceFault::NumberTooLarge),
+        Some(value) if value < 0x8000_0000 => Meaning::Token(Token::Int {
+            value,
+            kind: IntKind::Int,
+        }),
+        Some(value) if value < 0x1_0000_0000 => Meaning::Token(Token::Int {
+            value,
+            kind: IntKind::Uint,
+        }),
+        Some(value) if value < 0x8000_0000_0000_0000 => Meaning::Token(Token::Int {
+            value,
+            kind: IntKind::Long,
+        }),
+        Some(value) => Meaning::Token(Token::Int {
+            value,
+            kind: IntKind::Ulong,
+        }),
+    }
+}
+
+/// A name, of at most 63 characters.
+#[tactic(auto, unfolding(crate::specs::Value::named))]
+fn named(alloc: Global, name: &[u16]) -> Result<Meaning, OutOfMemory>
+    ensures { IfOk result (λ means. means ≡ named name.now) }
+{
+    if name.len() > 63 {
+        return Ok(Meaning::Fault(PieceFault::NameTooLong));
+    }
+    let text = Text::from_slice(alloc, name)?;
+    Ok(Meaning::Token(Token::Name(text)))
+}
+
+/// What stands between the first unit and the last.
+fn between(piece: &[u16]) -> &[u16]
+    ensures { result.now ≡ between piece.now }
+{
+    let front = piece.split_at(piece.len().saturating_sub(1)).0;
+    match front.split_first() {
+        Some((_, inner)) => inner,
+        None => front,
+    }
+}
+
+/// What stands between the quotes of a date or a color.
+fn behind_mark(piece: &[u16]) -> &[u16]
+    ensures { result.now ≡ drop 1 (between piece.now) }
+{
+    let text = between(piece);
+    match text.split_first() {
+        Some((_, inner)) => inner,
+        None => text,
+    }
+}
+
+/// The units from the third on.
+fn behind_two(piece: &[u16]) -> &[u16]
+    ensures { result.now ≡ drop 2 piece.now }
+{
+    piece.split_at(piece.len().min(2)).1
+}
+
+/// What a text between quotes means.
+#[tactic(auto, unfolding(crate::specs::Pieces::quoted))]
+fn quoted(alloc: Global, quote: Quote, piece: &[u16]) -> Result<Meaning, OutOfMemory>
+    ensures { IfOk result (λ means. means ≡ quoted quote piece.now) }
+{
+    match quote {
+        Quote::Str => string(alloc, piece),
+        Quote::Char => character(alloc, piece),
+        Quote::Date => Ok(date(behind_mark(piece))),
+        Quote::Color => Ok(color(behind_mark(piece))),
+        Quote::File => included(alloc, piece),
+        Quote::Library => included(alloc, piece),
+    }
+}
+
+/// A string.
+fn string(alloc: Global, piece: &[u16]) -> Result<Meaning, OutOfMemory>
+    ensures { IfOk result (λ means. means ≡ string (text_of escapes.Plain (between piece.now))) }
+{
+    match spelled_text(alloc, between(piece))? {
+        Some(text) => Ok(Meaning::Token(Token::Str(text))),
+        None => Ok(Meaning::Fault(PieceFault::NoToken)),
+    }
+}
+
+/// A character.
+fn character(alloc: Global, piece: &[u16]) -> Result<Meaning, OutOfMemory>
+    ensures { IfOk result (λ means. means ≡ character (text_of escapes.Plain (between piece.now))) }
+{
+    match spelled_text(alloc, between(piece))? {
+        Some(text) => Ok(one_unit(text.as_slice())),
+        None => Ok(Meaning::Fault(PieceFault::NoToken)),
+    }
+}
+
+fn one_unit(text: &[u16]) -> Meaning
+    ensures { result ≡ character (Some text.now) }
+{
+    match text {
+        [unit] => Meaning::Token(Token::Int {
+            value: u64::from(*unit),
+            kind: IntKind::Ushort,
+        }),
+        _ => Meaning::Fault(PieceFault::NoToken),
+    }
+}
+
+/// The name of an included file.
+fn included(alloc: Global, piece: &[u16]) -> Result<Meaning, OutOfMemory>
+    ensures { IfOk result (λ means. means ≡ meanings.Token (tokens.IncludeName (between piece.now))) }
+{
+    let name = Text::from_slice(alloc, between(piece))?;
+    Ok(Meaning::Token(Token::IncludeName(name)))
+}
+
+/// What a piece means.
+#[tactic(auto, unfolding(crate::specs::Pieces::meaning))]
+pub fn piece_meaning(alloc: Global, what: Lexeme, piece: &[u16]) -> Result<Meaning, OutOfMemory>
+    requires { length piece.now ≤ 1048576 }
+    ensures { IfOk result (λ means. means ≡ meaning what piece.now) }
+{
+    match what {
+        Lexeme::Blank => Ok(Meaning::Nothing),
+        Lexeme::OpenComment => Ok(Meaning::Fault(PieceFault::OpenComment)),
+        Lexeme::Name => named(alloc, piece),
+        Lexeme::Decimal => Ok(decimal(piece)),
+        Lexeme::Hexadecimal => Ok(hexadecimal(behind_two(piece))),
+        Lexeme::Double => real(alloc, piece),
+        Lexeme::Quoted(quote) => quoted(alloc, quote, piece),
+        Lexeme::OpenString => Ok(Meaning::Fault(PieceFault::OpenString)),
+        Lexeme::Sign(number) => Ok(Meaning::Token(Token::Sign(number))),
+        Lexeme::LineEnd => Ok(Meaning::Token(Token::LineEnd)),
+    }
+}
