@@ -1,6 +1,7 @@
 //! `quick` over whole files, and each way in which the outside can fail.
 use crate::outside::{BARS, EXPERT, REPORT, files, run, sink, words};
 use fx8::Text8;
+use std::alloc::Global;
 use std::test::Fail;
 use tester_cli::{Status, run_single};
 use tester_io::{CalmFiles, CalmSink};
@@ -94,22 +95,26 @@ fn tells_the_first_fault_of_words_and_files(rt: HostRuntime) -> Result<(), Fail>
     Ok(())
 }
 
-// A source of one byte more than its limit. (A price file that long would fill the machine's memory.)
+/// What is told where one of the two files has these bytes.
+fn told_with(alloc: Global, expert: &[u8], bars: &[u8]) -> Result<Text8, Fail> {
+    let mut files = files(alloc, &[(b"a.mq5", expert), (b"bars.csv", bars)], &[])?;
+    let mut out = sink(alloc, &[])?;
+    let told = run(alloc, &LINE, &mut files, &mut out)?;
+    if !out.bytes().is_empty() {
+        return Err("a refused run wrote".into());
+    }
+    Ok(told)
+}
+
+// One byte more than the limit of a source, 4 MiB, and than that of a price file, 512 MiB.
 #[test]
 fn a_file_past_its_limit_is_too_large(rt: HostRuntime) -> Result<(), Fail> {
-    let mut long = Vec::new(rt.alloc());
-    for _ in 0..4_194_305u32 {
-        long.push(b' ')?;
-    }
-    let mut files = files(
-        rt.alloc(),
-        &[(b"a.mq5", long.as_slice()), (b"bars.csv", BARS)],
-        &[],
-    )?;
-    let mut out = sink(rt.alloc(), &[])?;
-    let told = run(rt.alloc(), &LINE, &mut files, &mut out)?;
+    let long_source = vec![in rt.alloc(); b' '; 4_194_305]?;
+    let told = told_with(rt.alloc(), long_source.as_slice(), BARS)?;
     assert_eq!(rt; told.as_slice(), b"error 10 a.mq5\n".as_slice());
-    assert!(rt; out.bytes().is_empty());
+    let long_bars = vec![in rt.alloc(); b'\n'; 536_870_913]?;
+    let told = told_with(rt.alloc(), EXPERT, long_bars.as_slice())?;
+    assert_eq!(rt; told.as_slice(), b"error 10 bars.csv\n".as_slice());
     Ok(())
 }
 
