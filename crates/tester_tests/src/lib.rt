@@ -13,3 +13,5 @@ mod quick;
 mod rows;
 #[cfg(test)]
 mod statuses;
+#[cfg(test)]
+mod tokens;

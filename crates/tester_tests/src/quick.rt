@@ -106,14 +106,21 @@ fn told_with(alloc: Global, expert: &[u8], bars: &[u8]) -> Result<Text8, Fail> {
     Ok(told)
 }
 
-// One byte more than the limit of a source, 4 MiB, and than that of a price file, 512 MiB.
+// One byte more than the limit of a source, 4 MiB.
 #[test]
-fn a_file_past_its_limit_is_too_large(rt: HostRuntime) -> Result<(), Fail> {
-    let long_source = vec![in rt.alloc(); b' '; 4_194_305]?;
-    let told = told_with(rt.alloc(), long_source.as_slice(), BARS)?;
+fn a_source_past_its_limit_is_too_large(rt: HostRuntime) -> Result<(), Fail> {
+    let long = vec![in rt.alloc(); b' '; 4_194_305]?;
+    let told = told_with(rt.alloc(), long.as_slice(), BARS)?;
     assert_eq!(rt; told.as_slice(), b"error 10 a.mq5\n".as_slice());
-    let long_bars = vec![in rt.alloc(); b'\n'; 536_870_913]?;
-    let told = told_with(rt.alloc(), EXPERT, long_bars.as_slice())?;
+    Ok(())
+}
+
+// One byte more than the limit of a price file, 512 MiB. (It takes less than a second and 1 GiB; the slow build of
+// `rt try` does not end it within its time.)
+#[test]
+fn a_price_file_past_its_limit_is_too_large(rt: HostRuntime) -> Result<(), Fail> {
+    let long = vec![in rt.alloc(); b'\n'; 536_870_913]?;
+    let told = told_with(rt.alloc(), EXPERT, long.as_slice())?;
     assert_eq!(rt; told.as_slice(), b"error 10 bars.csv\n".as_slice());
     Ok(())
 }
