@@ -10,7 +10,6 @@ use Rattle.mql_mean.specs.declared.tree.Checked.{Checked}
 use Rattle.mql_mean.specs.Answer.{Answer}
 use Rattle.mql_mean.specs.World.{Ended, Returned, World, world, Res, Go, End}
 use Rattle.mql_mean.specs.Means.{Outcome, outcome, means, calls, event}
-use Rattle.mql_mean.specs.Types.{Types, TypedBody, TypedFunctions}
 use Rattle.stack_vm.specs.declared.code.Code.{Code}
 use Rattle.stack_vm.specs.declared.code.FunctionCode.{FunctionCode}
 use Rattle.stack_vm.specs.declared.machine.End.{End as Over'}
@@ -23,7 +22,7 @@ use Rattle.stack_vm.specs.declared.code.Label.{Label}
 use Rattle.mql_lower.specs.Draft.{all_functions, Compiled}
 use Rattle.mql_lower.specs.Follows.{Gives, Follows, Told}
 use Rattle.mql_lower.proofs.Sim.{HasIn, LabelIn, function_comes}
-use Rattle.mql_lower.proofs.Sound.{Pairs, pairs, all_typed}
+use Rattle.mql_lower.proofs.Sound.{Pairs, pairs}
 use Rattle.mql_lower.proofs.Whole.{function_map}
 
 halts : (code : Code) (j : ℕ) (e : Ended) (n : ℕ) (w : World) → iter code j (Halt e n w) ≡ Halt e n w
@@ -49,22 +48,22 @@ of_result code x (End e n w) c = c
 
 -- the code of a function that is there
 abbrev Found : Code → List FunctionCode → Function → ℕ → Type 0
-Found code cs f k = (c : FunctionCode) × (slice_get cs k ≡ Some c) × CodeFor code f c × TypedBody f.locals f.body
+Found code cs f k = (c : FunctionCode) × (slice_get cs k ≡ Some c) × CodeFor code f c
 
-found : (code : Code) (fs : List Function) (cs : List FunctionCode) (k : ℕ) (f : Function) → EachFor code fs cs → TypedFunctions fs → slice_get fs k ≡ Some f → Found code cs f k
-found code [] [] k f h t e = absurd (subst (λ (o : Option Function). elim o as (λ _. Type 0) [ None ↦ Unit {0} | Some x ↦ ⊥ ]) e (tt {0}))
-found code (g ∷ fs) (c ∷ cs) zero f h t e = subst (λ f. Found code (c ∷ cs) f 0) (ap (λ o. elim o as (λ _. Function) [ None ↦ g | Some x ↦ x ]) e) (c, refl, h.0, t.0)
-found code (g ∷ fs) (c ∷ cs) (suc k) f h t e = found code fs cs k f h.1 t.1 e
-found code [] (c ∷ cs) k f h t e = absurd h
-found code (g ∷ fs) [] k f h t e = absurd h
+found : (code : Code) (fs : List Function) (cs : List FunctionCode) (k : ℕ) (f : Function) → EachFor code fs cs → slice_get fs k ≡ Some f → Found code cs f k
+found code [] [] k f h e = absurd (subst (λ (o : Option Function). elim o as (λ _. Type 0) [ None ↦ Unit {0} | Some x ↦ ⊥ ]) e (tt {0}))
+found code (g ∷ fs) (c ∷ cs) zero f h e = subst (λ f. Found code (c ∷ cs) f 0) (ap (λ o. elim o as (λ _. Function) [ None ↦ g | Some x ↦ x ]) e) (c, refl, h.0)
+found code (g ∷ fs) (c ∷ cs) (suc k) f h e = found code fs cs k f h.1 e
+found code [] (c ∷ cs) k f h e = absurd h
+found code (g ∷ fs) [] k f h e = absurd h
 
 -- the machine's run is the program's
-module _ (checked : Checked) (code : Code) (t : Types checked) (h : Compiled checked code) where
+module _ (checked : Checked) (code : Code) (h : Compiled checked code) where
   function_runs : (k : ℕ) (f : Function) (n : ℕ) (w : World) → slice_get (all_functions checked) k ≡ Some f → Comes code (starts_at code (Some k) n w) (land (calls n (Some f) n w) (λ v n w. Halt (Returned v) n w))
   function_runs k f n w e =
-      let c = found code (all_functions checked) code.functions k f h.each (all_typed checked t) e in
+      let c = found code (all_functions checked) code.functions k f h.each e in
       let at = function_map (HasOwn c.0) (HasIn code k) (HoldsIn code) (HoldsIn code) (LabelOwn c.0) (LabelIn code k) (λ pc i g. ap (λ o. then_some o (λ c. slice_get c.instructions pc)) c.1 ∙ g) (λ j v g. g) (λ l pc g. ap (λ o. then_some o (λ c. then_some (slice_get c.labels l) (λ l. Some l.place))) c.1 ∙ ap (λ o. then_some o (λ (l : Label). Some l.place)) g) f 0 (length c.0.instructions) c.2.is in
-      subst (λ o. Comes code (starts o k n w) (land (calls n (Some f) n w) (λ v n w. Halt (Returned v) n w))) (sym c.1) (function_comes code k f c.0.locals (length c.0.instructions) n w c.2.locals c.3 at)
+      subst (λ o. Comes code (starts o k n w) (land (calls n (Some f) n w) (λ v n w. Halt (Returned v) n w))) (sym c.1) (function_comes code k f c.0.locals (length c.0.instructions) n w c.2.locals at)
 
   entry_runs : (o : Option ℕ) (q : Option Function) (n : ℕ) (w : World) → Pairs checked o q → Comes code (starts_at code o n w) (land (calls n q n w) (λ v n w. Halt (Returned v) n w))
   entry_runs None q n w p = subst (λ q. Comes code (starts_at code None n w) (land (calls n q n w) (λ v n w. Halt (Returned v) n w))) (sym p) (record { instructions = 0; is = refl })
@@ -76,9 +75,9 @@ module _ (checked : Checked) (code : Code) (t : Types checked) (h : Compiled che
 
   pub follows : Follows checked code
   follows = record {
-    entries = λ e. same_entries (entry_of code.entries e) (event checked e) (pairs checked code t h e);
+    entries = λ e. same_entries (entry_of code.entries e) (event checked e) (pairs checked code h e);
     outcomes = λ entry arg n w o.
-        let c = of_result code _ (calls n (event checked entry) n w) (entry_runs (entry_of code.entries entry) (event checked entry) n w (pairs checked code t h entry)) in
+        let c = of_result code _ (calls n (event checked entry) n w) (entry_runs (entry_of code.entries entry) (event checked entry) n w (pairs checked code h entry)) in
         ((λ g. ap (end_of o) (one_end code c.instructions g.instructions _ (means checked entry arg n w) o c.is g.is)), (λ e. subst (Gives code entry arg n w) e c));
   }
 

@@ -1,11 +1,14 @@
 -- Code that the lowering writes.
-use Rattle.std.proofs.Common.{◌≡◌, ℕ, ℤ, suc, Bool, true, false, List, [], ◌∷◌, ◌++◌, length, Option, Some, None, Result, Ok, Err, refl, sym, ap, ◌∙◌, subst, arith, length-append}
+use Rattle.std.proofs.Common.{◌≡◌, ℕ, ℤ, pos, suc, ◌==◌, not, Bool, true, false, List, [], ◌∷◌, ◌++◌, length, Option, Some, None, Result, Ok, Err, refl, sym, ap, ◌∙◌, subst, arith, length-append}
 use Rattle.std.specs.Prelude.{slice_get, OnOk}
 use Rattle.std.proofs.Math.Seq.{get_or-append_seam}
 use Rattle.std.proofs.lemmas.List.{get_or_append_left}
 use Rattle.std.proofs.lemmas.Option.{slice_get-get_or, slice_get_within, get_or_from_slice_get}
 use mathlib.Core.Former.{Count}
 use Rattle.fx8.specs.declared.int_kind.IntKind.{IntKind}
+use Rattle.fx8.specs.declared.int_kind.IntKind.TheVariants.{Int}
+use Rattle.mql_mean.specs.Apply.{arity}
+use Rattle.mql_mean.specs.Means.{void_value}
 use Rattle.mql_mean.specs.declared.tree.Operator.{Operator}
 use Rattle.mql_mean.specs.declared.value.Value.{Value}
 use Rattle.mql_mean.specs.declared.value.Value.TheVariants.{Num, Str}
@@ -23,8 +26,8 @@ use Rattle.stack_vm.specs.declared.code.Instruction.TheVariants as op
 use Rattle.stack_vm.specs.declared.code.Effect.TheVariants as ef
 use Rattle.stack_vm.specs.Machine.{then_some, constant_value}
 use Rattle.mql_lower.specs.declared.draft.Draft.{Draft}
-use Rattle.mql_lower.specs.Stands.{Span, ◌▷◌, WithLabel, Nothing, Here, One, Constant as ConstantAt, ExpressionAt, RowAt, LetGo, StatementAt, StatementsAt, BodyAt}
-use Rattle.mql_lower.specs.Draft.{Has, Holds, Labelled, expression_in, arguments_in, let_go_in, statement_in, body_in, Keeps, Later, Grown, Emits, Adds, NewText, NewConstant}
+use Rattle.mql_lower.specs.Stands.{Span, ◌▷◌, WithLabel, Nothing, Here, One, Constant as ConstantAt, StuckIf, ExpressionAt, ValueAt, RowAt, LetGo, StatementAt, StatementsAt, BodyAt}
+use Rattle.mql_lower.specs.Draft.{Has, Holds, Labelled, expression_in, stuck_in, value_in, arguments_in, let_go_in, statement_in, body_in, Keeps, Later, Grown, Emits, Adds, NewText, NewConstant}
 
 -- what a chain of look-ups found
 abbrev IsNone : {A : Type 0} → Option A → Type 0
@@ -61,17 +64,24 @@ module _ (H H' : ℕ → Instruction → Type 0) (C C' : ℕ → Value → Type 
   constant_map : (v : Value) (a b : ℕ) → ConstantAt H C L v a b → ConstantAt H' C' L' v a b
   constant_map v a b s = record { number = s.number; holds = g s.number v s.holds; one = one_map _ a b s.one }
 
+  stuck_map : (t : Bool) (a b : ℕ) → StuckIf H C L t a b → StuckIf H' C' L' t a b
+  stuck_map true a b s = seq_map a b (constant_map void_value) (one_map _) s
+  stuck_map false a b s = s
+
   mutual
     pub expression_map : (e : Expression) (a b : ℕ) → ExpressionAt H C L e a b → ExpressionAt H' C' L' e a b
     expression_map (Text s) a b t = constant_map (Str s) a b t
     expression_map (Number k x) a b t = constant_map (Num k x) a b t
     expression_map (Local local) a b t = seq_map a b (one_map _) (one_map _) t
-    expression_map (Apply' o k row args) a b t = seq_map a b (row_map args) (one_map _) t
+    expression_map (Apply' o k row args) a b t = seq_map a b (row_map args) (λ a b. seq_map a b (stuck_map (not (count args == arity o))) (one_map _)) t
     expression_map (Native' native row args) a b t = seq_map a b (row_map args) (one_map _) t
 
     pub row_map : {m : _} (es : Row_of-Expression m) (a b : ℕ) → RowAt H C L es a b → RowAt H' C' L' es a b
     row_map end_of-Expression a b s = s
-    row_map (more_of-Expression e es) a b s = seq_map a b (expression_map e) (row_map es) s
+    row_map (more_of-Expression e es) a b s = seq_map a b (λ a b. seq_map a b (expression_map e) (stuck_map (is_void e))) (row_map es) s
+
+  pub value_map : (e : Expression) (a b : ℕ) → ValueAt H C L e a b → ValueAt H' C' L' e a b
+  value_map e a b s = seq_map a b (expression_map e) (stuck_map (is_void e)) s
 
   go_map : (t : Bool) (a b : ℕ) → LetGo H C L t a b → LetGo H' C' L' t a b
   go_map true a b s = s
@@ -82,11 +92,11 @@ module _ (H H' : ℕ → Instruction → Type 0) (C C' : ℕ → Value → Type 
     statement_map (Empty line) a b s = one_map _ a b s
     statement_map (Block' line row body) a b s = seq_map a b (one_map _) (statements_map body) s
     statement_map (Evaluate line e) a b s = seq_map a b (one_map _) (λ a b. seq_map a b (expression_map e) (go_map (is_void e))) s
-    statement_map (Assign line local e) a b s = seq_map a b (one_map _) (λ a b. seq_map a b (expression_map e) (λ a b. seq_map a b (one_map _) (one_map _))) s
+    statement_map (Assign line local e) a b s = seq_map a b (one_map _) (λ a b. seq_map a b (value_map e) (λ a b. seq_map a b (one_map _) (one_map _))) s
     statement_map (If' line e row body) a b t =
-        label_map a b (λ out a b. seq_map a b (λ a b. seq_map a b (one_map _) λ a b. seq_map a b (expression_map e) λ a b. seq_map a b (one_map _) (statements_map body)) (here_map out)) t
+        label_map a b (λ out a b. seq_map a b (λ a b. seq_map a b (one_map _) λ a b. seq_map a b (value_map e) λ a b. seq_map a b (one_map _) (statements_map body)) (here_map out)) t
     statement_map (While' line e row body) a b t =
-        label_map a b (λ out a b. seq_map a b (λ a b. seq_map a b (one_map _) λ a b. label_map a b λ top a b. seq_map a b (here_map top) λ a b. seq_map a b (one_map _) λ a b. seq_map a b (expression_map e) λ a b. seq_map a b (one_map _) λ a b. seq_map a b (statements_map body) λ a b. seq_map a b (one_map _) (one_map _)) (here_map out)) t
+        label_map a b (λ out a b. seq_map a b (λ a b. seq_map a b (one_map _) λ a b. label_map a b λ top a b. seq_map a b (here_map top) λ a b. seq_map a b (one_map _) λ a b. seq_map a b (value_map e) λ a b. seq_map a b (one_map _) λ a b. seq_map a b (statements_map body) λ a b. seq_map a b (one_map _) (one_map _)) (here_map out)) t
 
     pub statements_map : {m : _} (ss : Row_of-Statement m) (a b : ℕ) → StatementsAt H C L ss a b → StatementsAt H' C' L' ss a b
     statements_map end_of-Statement a b s = s
@@ -106,6 +116,12 @@ one_mono i d d' l a b s = one_map (Has d) (Has d') (Holds d) (Holds d') (Labelle
 pub expression_mono : (e : Expression) → Mono (expression_in e)
 expression_mono e d d' l a b s = expression_map (Has d) (Has d') (Holds d) (Holds d') (Labelled d) (Labelled d') l.instructions l.code.constants l.labels e a b s
 
+pub value_mono : (e : Expression) → Mono (value_in e)
+value_mono e d d' l a b s = value_map (Has d) (Has d') (Holds d) (Holds d') (Labelled d) (Labelled d') l.instructions l.code.constants l.labels e a b s
+
+pub stuck_mono : (t : Bool) → Mono (stuck_in t)
+stuck_mono t d d' l a b s = stuck_map (Has d) (Has d') (Holds d) (Holds d') (Labelled d) (Labelled d') l.instructions l.code.constants l.labels t a b s
+
 pub statement_mono : (s : Statement) → Mono (statement_in s)
 statement_mono s d d' l a b t = statement_map (Has d) (Has d') (Holds d) (Holds d') (Labelled d) (Labelled d') l.instructions l.code.constants l.labels s a b t
 
@@ -114,7 +130,7 @@ body_mono ss d d' l a b t = body_map (Has d) (Has d') (Holds d) (Holds d') (Labe
 
 pub arguments_mono : (es : List Expression) → Mono (arguments_in es)
 arguments_mono [] d d' l a b s = s
-arguments_mono (e ∷ es) d d' l a b s = seq_map a b (expression_mono e d d' l) (arguments_mono es d d' l) s
+arguments_mono (e ∷ es) d d' l a b s = seq_map a b (value_mono e d d' l) (arguments_mono es d d' l) s
 
 -- later and later
 pub keeps_same : (c : Code) → Keeps c c
@@ -239,15 +255,36 @@ row_count : (n : _) (row : Row_of-Expression n) → count row ≡ length (items-
 row_count n end_of-Expression = refl
 row_count n (more_of-Expression e es) = ap suc (row_count _ es)
 
-pub apply_emits : {E : Type 0} (r : Result (Unit {0}) E) (o : Operator) (kind : IntKind) (args : List Expression) (d d1 d2 : Draft) → Emits (arguments_in args) d d1 → OnOk r (Adds (op.Plain (ef.Apply o kind)) d1 d2) → OnOk r (Emits (expression_in (x.Apply o kind args)) d d2)
-apply_emits r o kind args d d1 d2 a h =
+-- code that is stuck, and none
+pub stuck_emits : {E : Type 0} (r : Result (Unit {0}) E) (t : Bool) (k : ℕ) (d d1 d2 d3 : Draft) → t ≡ true → NewConstant (constant.Number Int (pos 0)) k d d1 → Adds (op.Plain (ef.Const k)) d1 d2 → OnOk r (Adds (op.Plain ef.Read) d2 d3) → OnOk r (Emits (stuck_in t) d d3)
+stuck_emits r t k d d1 d2 d3 e nc a h =
+    on_ok r
+    (λ b.
+    let c = held_emits (Num Int (pos 0)) k d d1 d2 (subst (Grown d) (sym nc.draft) (constant_grown (constant.Number Int (pos 0)) d)) (ap (λ (d : Draft). d.instructions) nc.draft) (new_holds (constant.Number Int (pos 0)) (Num Int (pos 0)) k d d1 nc refl) a in
+    subst (λ t. Emits (stuck_in t) d d3) (sym e) (seq _ _ d d2 d3 (expression_mono (x.Number Int (pos 0))) c (adds (op.Plain ef.Read) d2 d3 b)))
+    h
+
+pub free_emits : (t : Bool) (d : Draft) → t ≡ false → Emits (stuck_in t) d d
+free_emits t d e = subst (λ t. Emits (stuck_in t) d d) (sym e) (none_emits d)
+
+pub value_emits : {E : Type 0} (r : Result (Unit {0}) E) (e : Expression) (d d1 d2 : Draft) → Emits (expression_in e) d d1 → OnOk r (Emits (stuck_in (is_void e)) d1 d2) → OnOk r (Emits (value_in e) d d2)
+value_emits r e d d1 d2 a h = on_ok r (λ b. seq (expression_in e) (stuck_in (is_void e)) d d1 d2 (expression_mono e) a b) h
+
+pub apply_emits : {E : Type 0} (r : Result (Unit {0}) E) (o : Operator) (kind : IntKind) (args : List Expression) (d d1 d2 d3 : Draft) → Emits (arguments_in args) d d1 → Emits (stuck_in (not (length args == arity o))) d1 d2 → OnOk r (Adds (op.Plain (ef.Apply o kind)) d2 d3) → OnOk r (Emits (expression_in (x.Apply o kind args)) d d3)
+apply_emits r o kind args d d1 d2 d3 a b h =
     on_ok r
     (λ p.
-    let s = seq (arguments_in args) _ d d1 d2 (arguments_mono args) a (adds (op.Plain (ef.Apply o kind)) d1 d2 p) in
+    let t = not (length args == arity o) in
+    let s = seq (arguments_in args) _ d d1 d3 (arguments_mono args) a (seq (stuck_in t) _ d1 d2 d3 (stuck_mono t) b (adds (op.Plain (ef.Apply o kind)) d2 d3 p)) in
     let row = row_of (x.Apply o kind args) in
+    let same : length args ≡ count row.1 = sym (row_count row.0 row.1 ∙ ap length (items_hidden-the_row-Expression-0 args)) in
     record {
       grown = s.grown;
-      is = record { mid = s.is.mid; fst = row_stands row.0 row.1 d2 _ _ (subst (λ l. arguments_in l d2 (length d.instructions) s.is.mid) (sym (items_hidden-the_row-Expression-0 args)) s.is.fst); snd = s.is.snd };
+      is = record {
+        mid = s.is.mid;
+        fst = row_stands row.0 row.1 d3 _ _ (subst (λ l. arguments_in l d3 (length d.instructions) s.is.mid) (sym (items_hidden-the_row-Expression-0 args)) s.is.fst);
+        snd = subst (λ n. (stuck_in (not (n == arity o)) d3 ▷ One (Has d3) (Holds d3) (Labelled d3) (op.Plain (ef.Apply o kind))) s.is.mid (length d3.instructions)) same s.is.snd;
+      };
     })
     h
 
@@ -265,13 +302,13 @@ native_emits r native args k d d1 d2 e a h = on_ok r emits h
         }
 
 -- one more argument, and one more statement
-arguments_snoc : (es : List Expression) (e : Expression) (d : Draft) (a m b : ℕ) → arguments_in es d a m → expression_in e d m b → arguments_in (es ++ e ∷ []) d a b
-arguments_snoc [] e d a m b h t = record { mid = b; fst = subst (λ p. expression_in e d p b) (sym h) t; snd = refl }
+arguments_snoc : (es : List Expression) (e : Expression) (d : Draft) (a m b : ℕ) → arguments_in es d a m → value_in e d m b → arguments_in (es ++ e ∷ []) d a b
+arguments_snoc [] e d a m b h t = record { mid = b; fst = subst (λ p. value_in e d p b) (sym h) t; snd = refl }
 arguments_snoc (u ∷ us) e d a m b h t = record { mid = h.mid; fst = h.fst; snd = arguments_snoc us e d h.mid m b h.snd t }
 
-pub more_arguments : (es : List Expression) (e : Expression) (d d1 d2 : Draft) → Emits (arguments_in es) d d1 → Emits (expression_in e) d1 d2 → Emits (arguments_in (es ++ e ∷ [])) d d2
+pub more_arguments : (es : List Expression) (e : Expression) (d d1 d2 : Draft) → Emits (arguments_in es) d d1 → Emits (value_in e) d1 d2 → Emits (arguments_in (es ++ e ∷ [])) d d2
 more_arguments es e d d1 d2 a b =
-    let c = seq (arguments_in es) (expression_in e) d d1 d2 (arguments_mono es) a b in
+    let c = seq (arguments_in es) (value_in e) d d1 d2 (arguments_mono es) a b in
     record { grown = c.grown; is = arguments_snoc es e d2 _ c.is.mid _ c.is.fst c.is.snd }
 
 body_snoc : (ss : List Statement) (s : Statement) (d : Draft) (a m b : ℕ) → body_in ss d a m → statement_in s d m b → body_in (ss ++ s ∷ []) d a b
@@ -320,12 +357,12 @@ pub evaluate_emits : {E : Type 0} (r : Result (Unit {0}) E) (line : ℕ) (e : Ex
 evaluate_emits r line e d d1 d2 d3 a b h =
     on_ok r (λ c. seq _ _ d d1 d3 (one_mono (op.Plain (ef.Line line))) (adds _ d d1 a) (seq (expression_in e) (let_go_in e) d1 d2 d3 (expression_mono e) b c)) h
 
-pub assign_emits : {E : Type 0} (r : Result (Unit {0}) E) (line local : ℕ) (e : Expression) (d d1 d2 d3 d4 : Draft) → Adds (op.Plain (ef.Line line)) d d1 → Emits (expression_in e) d1 d2 → Adds (op.Plain (ef.Local local)) d2 d3 → OnOk r (Adds (op.Plain ef.Write) d3 d4) → OnOk r (Emits (statement_in (y.Assign line local e)) d d4)
+pub assign_emits : {E : Type 0} (r : Result (Unit {0}) E) (line local : ℕ) (e : Expression) (d d1 d2 d3 d4 : Draft) → Adds (op.Plain (ef.Line line)) d d1 → Emits (value_in e) d1 d2 → Adds (op.Plain (ef.Local local)) d2 d3 → OnOk r (Adds (op.Plain ef.Write) d3 d4) → OnOk r (Emits (statement_in (y.Assign line local e)) d d4)
 assign_emits r line local e d d1 d2 d3 d4 a b c h =
-    on_ok r (λ w. seq _ _ d d1 d4 (one_mono (op.Plain (ef.Line line))) (adds _ d d1 a) (seq (expression_in e) _ d1 d2 d4 (expression_mono e) b (seq _ _ d2 d3 d4 (one_mono (op.Plain (ef.Local local))) (adds _ d2 d3 c) (adds _ d3 d4 w)))) h
+    on_ok r (λ w. seq _ _ d d1 d4 (one_mono (op.Plain (ef.Line line))) (adds _ d d1 a) (seq (value_in e) _ d1 d2 d4 (value_mono e) b (seq _ _ d2 d3 d4 (one_mono (op.Plain (ef.Local local))) (adds _ d2 d3 c) (adds _ d3 d4 w)))) h
 
 pub void_emits : (e : Expression) (d : Draft) → is_void e ≡ true → Emits (let_go_in e) d d
 void_emits e d v = subst (λ t. Emits (λ d. LetGo (Has d) (Holds d) (Labelled d) t) d d) (sym v) (none_emits d)
 
-pub value_emits : {E : Type 0} (r : Result (Unit {0}) E) (e : Expression) (d d1 : Draft) → is_void e ≡ false → OnOk r (Adds (op.Plain ef.Drop) d d1) → OnOk r (Emits (let_go_in e) d d1)
-value_emits r e d d1 v h = on_ok r (λ a. subst (λ t. Emits (λ d. LetGo (Has d) (Holds d) (Labelled d) t) d d1) (sym v) (adds _ d d1 a)) h
+pub dropped_emits : {E : Type 0} (r : Result (Unit {0}) E) (e : Expression) (d d1 : Draft) → is_void e ≡ false → OnOk r (Adds (op.Plain ef.Drop) d d1) → OnOk r (Emits (let_go_in e) d d1)
+dropped_emits r e d d1 v h = on_ok r (λ a. subst (λ t. Emits (λ d. LetGo (Has d) (Holds d) (Labelled d) t) d d1) (sym v) (adds _ d d1 a)) h

@@ -11,8 +11,8 @@ use Rattle.stack_vm.specs.declared.code.Effect.TheVariants as ef
 use Rattle.stack_vm.specs.declared.code.Label.{Label}
 use Rattle.mql_lower.specs.declared.draft.Draft.{Draft}
 use Rattle.mql_lower.specs.Stands.{Span, ◌▷◌, WithLabel, Here, One}
-use Rattle.mql_lower.specs.Draft.{Has, Holds, Labelled, expression_in, statement_in, body_in, Later, Grown, Emits, Adds, NewLabel, SetLabel, place_of, placed}
-use Rattle.mql_lower.proofs.Emits.{Mono, expression_mono, row_in, row_mono, row_emits, one_mono, here_map, seq_map, label_map, keeps_same, adds, seq, on_ok, slice_get_more, slice_get_seam}
+use Rattle.mql_lower.specs.Draft.{Has, Holds, Labelled, value_in, statement_in, body_in, Later, Grown, Emits, Adds, NewLabel, SetLabel, place_of, placed}
+use Rattle.mql_lower.proofs.Emits.{Mono, value_mono, row_in, row_mono, row_emits, one_mono, here_map, seq_map, label_map, keeps_same, adds, seq, on_ok, slice_get_more, slice_get_seam}
 
 pub set_same : {A : Type 0} (xs : List A) (i : ℕ) (y x : A) → slice_get xs i ≡ Some x → slice_get (slice_set xs i y) i ≡ Some y
 set_same xs i y x e =
@@ -105,25 +105,25 @@ label_begin B l d d1 d2 d3 nl s b =
 
 -- the parts of an `if` before its label
 abbrev if_part : ℕ → Expression → List Statement → ℕ → Draft → Span
-if_part line e ss out d = One (Has d) (Holds d) (Labelled d) (op.Plain (ef.Line line)) ▷ expression_in e d ▷ One (Has d) (Holds d) (Labelled d) (op.Unless out) ▷ row_in ss d
+if_part line e ss out d = One (Has d) (Holds d) (Labelled d) (op.Plain (ef.Line line)) ▷ value_in e d ▷ One (Has d) (Holds d) (Labelled d) (op.Unless out) ▷ row_in ss d
 
 if_mono : (line : ℕ) (e : Expression) (ss : List Statement) (out : ℕ) → Mono (if_part line e ss out)
-if_mono line e ss out d d' l a b t = seq_map a b (one_mono _ d d' l) (λ a b. seq_map a b (expression_mono e d d' l) (λ a b. seq_map a b (one_mono _ d d' l) (row_mono ss d d' l))) t
+if_mono line e ss out d d' l a b t = seq_map a b (one_mono _ d d' l) (λ a b. seq_map a b (value_mono e d d' l) (λ a b. seq_map a b (one_mono _ d d' l) (row_mono ss d d' l))) t
 
-if_written : (line : ℕ) (e : Expression) (ss : List Statement) (out : ℕ) (d1 d2 d3 d4 d5 : Draft) → Adds (op.Plain (ef.Line line)) d1 d2 → Emits (expression_in e) d2 d3 → Adds (op.Unless out) d3 d4 → Emits (body_in ss) d4 d5 → Emits (if_part line e ss out) d1 d5
-if_written line e ss out d1 d2 d3 d4 d5 a b c t = seq _ _ d1 d2 d5 (one_mono (op.Plain (ef.Line line))) (adds _ d1 d2 a) (seq (expression_in e) _ d2 d3 d5 (expression_mono e) b (seq _ (row_in ss) d3 d4 d5 (one_mono (op.Unless out)) (adds _ d3 d4 c) (row_emits ss d4 d5 t)))
+if_written : (line : ℕ) (e : Expression) (ss : List Statement) (out : ℕ) (d1 d2 d3 d4 d5 : Draft) → Adds (op.Plain (ef.Line line)) d1 d2 → Emits (value_in e) d2 d3 → Adds (op.Unless out) d3 d4 → Emits (body_in ss) d4 d5 → Emits (if_part line e ss out) d1 d5
+if_written line e ss out d1 d2 d3 d4 d5 a b c t = seq _ _ d1 d2 d5 (one_mono (op.Plain (ef.Line line))) (adds _ d1 d2 a) (seq (value_in e) _ d2 d3 d5 (value_mono e) b (seq _ (row_in ss) d3 d4 d5 (one_mono (op.Unless out)) (adds _ d3 d4 c) (row_emits ss d4 d5 t)))
 
-pub if_waits : (line : ℕ) (e : Expression) (ss : List Statement) (out : ℕ) (d d1 d2 d3 d4 d5 : Draft) → NewLabel out d d1 → Adds (op.Plain (ef.Line line)) d1 d2 → Emits (expression_in e) d2 d3 → Adds (op.Unless out) d3 d4 → Emits (body_in ss) d4 d5 → slice_get d5.labels out ≡ Some None
+pub if_waits : (line : ℕ) (e : Expression) (ss : List Statement) (out : ℕ) (d d1 d2 d3 d4 d5 : Draft) → NewLabel out d d1 → Adds (op.Plain (ef.Line line)) d1 d2 → Emits (value_in e) d2 d3 → Adds (op.Unless out) d3 d4 → Emits (body_in ss) d4 d5 → slice_get d5.labels out ≡ Some None
 if_waits line e ss out d d1 d2 d3 d4 d5 nl a b c t = (if_written line e ss out d1 d2 d3 d4 d5 a b c t).grown.labels out None (new_unset out d d1 nl)
 
-pub if_emits : {E : Type 0} (r : Result (Unit {0}) E) (line : ℕ) (e : Expression) (ss : List Statement) (out : ℕ) (d d1 d2 d3 d4 d5 d6 : Draft) → NewLabel out d d1 → Adds (op.Plain (ef.Line line)) d1 d2 → Emits (expression_in e) d2 d3 → Adds (op.Unless out) d3 d4 → Emits (body_in ss) d4 d5 → OnOk r (SetLabel out d5 d6) → OnOk r (Emits (statement_in (y.If line e ss)) d d6)
+pub if_emits : {E : Type 0} (r : Result (Unit {0}) E) (line : ℕ) (e : Expression) (ss : List Statement) (out : ℕ) (d d1 d2 d3 d4 d5 d6 : Draft) → NewLabel out d d1 → Adds (op.Plain (ef.Line line)) d1 d2 → Emits (value_in e) d2 d3 → Adds (op.Unless out) d3 d4 → Emits (body_in ss) d4 d5 → OnOk r (SetLabel out d5 d6) → OnOk r (Emits (statement_in (y.If line e ss)) d d6)
 if_emits r line e ss out d d1 d2 d3 d4 d5 d6 nl a b c t h =
     let q = if_written line e ss out d1 d2 d3 d4 d5 a b c t in
     on_ok r (λ sl. label_end (if_part line e ss) out d d1 d5 d6 (if_mono line e ss out) nl q sl) h
 
 -- the parts of a loop after its label, and before the label that it leaves to
 abbrev turn_part : ℕ → Expression → List Statement → ℕ → ℕ → Draft → Span
-turn_part line e ss out top d = One (Has d) (Holds d) (Labelled d) op.Step ▷ expression_in e d ▷ One (Has d) (Holds d) (Labelled d) (op.Unless out) ▷ row_in ss d ▷ One (Has d) (Holds d) (Labelled d) (op.Plain (ef.Line line)) ▷ One (Has d) (Holds d) (Labelled d) (op.Jump top)
+turn_part line e ss out top d = One (Has d) (Holds d) (Labelled d) op.Step ▷ value_in e d ▷ One (Has d) (Holds d) (Labelled d) (op.Unless out) ▷ row_in ss d ▷ One (Has d) (Holds d) (Labelled d) (op.Plain (ef.Line line)) ▷ One (Has d) (Holds d) (Labelled d) (op.Jump top)
 
 abbrev loop_part : ℕ → Expression → List Statement → ℕ → Draft → Span
 loop_part line e ss out d = One (Has d) (Holds d) (Labelled d) (op.Plain (ef.Line line)) ▷ WithLabel (λ top. Here (Has d) (Holds d) (Labelled d) top ▷ turn_part line e ss out top d)
@@ -131,23 +131,23 @@ loop_part line e ss out d = One (Has d) (Holds d) (Labelled d) (op.Plain (ef.Lin
 loop_mono : (line : ℕ) (e : Expression) (ss : List Statement) (out : ℕ) → Mono (loop_part line e ss out)
 loop_mono line e ss out d d' l a b t =
     seq_map a b (one_mono _ d d' l)
-    (λ a b. label_map a b (λ top a b. seq_map a b (here_map (Has d) (Has d') (Holds d) (Holds d') (Labelled d) (Labelled d') l.instructions l.code.constants l.labels top) λ a b. seq_map a b (one_mono _ d d' l) λ a b. seq_map a b (expression_mono e d d' l) λ a b. seq_map a b (one_mono _ d d' l) λ a b. seq_map a b (row_mono ss d d' l) λ a b. seq_map a b (one_mono _ d d' l) (one_mono _ d d' l)))
+    (λ a b. label_map a b (λ top a b. seq_map a b (here_map (Has d) (Has d') (Holds d) (Holds d') (Labelled d) (Labelled d') l.instructions l.code.constants l.labels top) λ a b. seq_map a b (one_mono _ d d' l) λ a b. seq_map a b (value_mono e d d' l) λ a b. seq_map a b (one_mono _ d d' l) λ a b. seq_map a b (row_mono ss d d' l) λ a b. seq_map a b (one_mono _ d d' l) (one_mono _ d d' l)))
     t
 
-loop_written : (line : ℕ) (e : Expression) (ss : List Statement) (out top : ℕ) (d1 d2 d3 d4 d5 d6 d7 d8 d9 d10 : Draft) → Adds (op.Plain (ef.Line line)) d1 d2 → NewLabel top d2 d3 → SetLabel top d3 d4 → Adds op.Step d4 d5 → Emits (expression_in e) d5 d6 → Adds (op.Unless out) d6 d7 → Emits (body_in ss) d7 d8 → Adds (op.Plain (ef.Line line)) d8 d9 → Adds (op.Jump top) d9 d10 → Emits (loop_part line e ss out) d1 d10
+loop_written : (line : ℕ) (e : Expression) (ss : List Statement) (out top : ℕ) (d1 d2 d3 d4 d5 d6 d7 d8 d9 d10 : Draft) → Adds (op.Plain (ef.Line line)) d1 d2 → NewLabel top d2 d3 → SetLabel top d3 d4 → Adds op.Step d4 d5 → Emits (value_in e) d5 d6 → Adds (op.Unless out) d6 d7 → Emits (body_in ss) d7 d8 → Adds (op.Plain (ef.Line line)) d8 d9 → Adds (op.Jump top) d9 d10 → Emits (loop_part line e ss out) d1 d10
 loop_written line e ss out top d1 d2 d3 d4 d5 d6 d7 d8 d9 d10 a nt st p b c t u j =
     let q =
     seq _ _ d4 d5 d10 (one_mono op.Step) (adds _ d4 d5 p)
-    (seq (expression_in e) _ d5 d6 d10 (expression_mono e) b
+    (seq (value_in e) _ d5 d6 d10 (value_mono e) b
     (seq _ _ d6 d7 d10 (one_mono (op.Unless out)) (adds _ d6 d7 c)
     (seq (row_in ss) _ d7 d8 d10 (row_mono ss) (row_emits ss d7 d8 t)
     (seq _ _ d8 d9 d10 (one_mono (op.Plain (ef.Line line))) (adds _ d8 d9 u) (adds _ d9 d10 j))))) in
     seq _ _ d1 d2 d10 (one_mono (op.Plain (ef.Line line))) (adds _ d1 d2 a) (label_begin (turn_part line e ss out) top d2 d3 d4 d10 nt st q)
 
-pub while_waits : (line : ℕ) (e : Expression) (ss : List Statement) (out top : ℕ) (d d1 d2 d3 d4 d5 d6 d7 d8 d9 d10 : Draft) → NewLabel out d d1 → Adds (op.Plain (ef.Line line)) d1 d2 → NewLabel top d2 d3 → SetLabel top d3 d4 → Adds op.Step d4 d5 → Emits (expression_in e) d5 d6 → Adds (op.Unless out) d6 d7 → Emits (body_in ss) d7 d8 → Adds (op.Plain (ef.Line line)) d8 d9 → Adds (op.Jump top) d9 d10 → slice_get d10.labels out ≡ Some None
+pub while_waits : (line : ℕ) (e : Expression) (ss : List Statement) (out top : ℕ) (d d1 d2 d3 d4 d5 d6 d7 d8 d9 d10 : Draft) → NewLabel out d d1 → Adds (op.Plain (ef.Line line)) d1 d2 → NewLabel top d2 d3 → SetLabel top d3 d4 → Adds op.Step d4 d5 → Emits (value_in e) d5 d6 → Adds (op.Unless out) d6 d7 → Emits (body_in ss) d7 d8 → Adds (op.Plain (ef.Line line)) d8 d9 → Adds (op.Jump top) d9 d10 → slice_get d10.labels out ≡ Some None
 while_waits line e ss out top d d1 d2 d3 d4 d5 d6 d7 d8 d9 d10 nl a nt st p b c t u j = (loop_written line e ss out top d1 d2 d3 d4 d5 d6 d7 d8 d9 d10 a nt st p b c t u j).grown.labels out None (new_unset out d d1 nl)
 
-pub while_emits : {E : Type 0} (r : Result (Unit {0}) E) (line : ℕ) (e : Expression) (ss : List Statement) (out top : ℕ) (d d1 d2 d3 d4 d5 d6 d7 d8 d9 d10 d11 : Draft) → NewLabel out d d1 → Adds (op.Plain (ef.Line line)) d1 d2 → NewLabel top d2 d3 → SetLabel top d3 d4 → Adds op.Step d4 d5 → Emits (expression_in e) d5 d6 → Adds (op.Unless out) d6 d7 → Emits (body_in ss) d7 d8 → Adds (op.Plain (ef.Line line)) d8 d9 → Adds (op.Jump top) d9 d10 → OnOk r (SetLabel out d10 d11) → OnOk r (Emits (statement_in (y.While line e ss)) d d11)
+pub while_emits : {E : Type 0} (r : Result (Unit {0}) E) (line : ℕ) (e : Expression) (ss : List Statement) (out top : ℕ) (d d1 d2 d3 d4 d5 d6 d7 d8 d9 d10 d11 : Draft) → NewLabel out d d1 → Adds (op.Plain (ef.Line line)) d1 d2 → NewLabel top d2 d3 → SetLabel top d3 d4 → Adds op.Step d4 d5 → Emits (value_in e) d5 d6 → Adds (op.Unless out) d6 d7 → Emits (body_in ss) d7 d8 → Adds (op.Plain (ef.Line line)) d8 d9 → Adds (op.Jump top) d9 d10 → OnOk r (SetLabel out d10 d11) → OnOk r (Emits (statement_in (y.While line e ss)) d d11)
 while_emits r line e ss out top d d1 d2 d3 d4 d5 d6 d7 d8 d9 d10 d11 nl a nt st p b c t u j h =
     let w = loop_written line e ss out top d1 d2 d3 d4 d5 d6 d7 d8 d9 d10 a nt st p b c t u j in
     on_ok r (λ sl. label_end (loop_part line e ss) out d d1 d10 d11 (loop_mono line e ss out) nl w sl) h

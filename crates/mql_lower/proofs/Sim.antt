@@ -1,5 +1,5 @@
 -- The machine follows the program.
-use Rattle.std.proofs.Common.{◌≡◌, ℕ, zero, suc, ◌+◌, ◌≤◌, Bool, true, false, List, [], ◌∷◌, ◌++◌, length, Option, Some, refl, sym, ap, ◌∙◌, subst, arith, append-nil}
+use Rattle.std.proofs.Common.{◌≡◌, ℕ, zero, suc, ◌+◌, ◌≤◌, ◌==◌, not, Bool, true, false, List, [], ◌∷◌, ◌++◌, length, Option, Some, refl, sym, ap, ◌∙◌, subst, arith, append-nil}
 use Rattle.mql_mean.specs.declared.value.Value.{Value}
 use Rattle.mql_mean.specs.declared.value.Value.TheVariants.{Num, Str}
 use Rattle.mql_mean.specs.declared.host.HostCall.{HostCall}
@@ -11,13 +11,17 @@ use Rattle.mql_mean.specs.declared.tree.Function.{Function}
 use Rattle.mql_mean.specs.Answer.{Answer, Replied, Refused}
 use Rattle.mql_mean.specs.Natives.{takes, gives, native_void}
 use Rattle.mql_mean.specs.Ask.{call_of, replied, answered, asked, ask}
-use Rattle.mql_mean.specs.World.{Returned, World, Out, Ok', Bad, Res, Go, End, Act, bind, lift, map_out, spend}
+use Rattle.mql_mean.specs.World.{Returned, Stuck, World, Out, Ok', Bad, Res, Go, End, Act, bind, lift, map_out, spend}
 use Rattle.mql_mean.specs.Store.{with_some, enter, leave, set_line, read, write}
 use Rattle.mql_mean.specs.Apply.{arity, apply, truth}
 use Rattle.fx8.specs.declared.int_kind.IntKind.{IntKind}
 use Rattle.mql_mean.specs.declared.tree.Operator.{Operator}
-use Rattle.mql_mean.specs.Means.{void_value, choose, turns, value_of, values_of, does, does_row, does_all, calls}
-use Rattle.mql_mean.specs.Types.{Is, is_void, count, kind_of, Prints, Typed, TypedNumbers, TypedRow, TypedStatement, TypedStatements, TypedBody}
+use Rattle.mql_mean.specs.declared.tree.Operator.TheVariants.{Unary, Binary}
+use Rattle.mql_mean.specs.declared.tree.UnaryOperator.TheVariants.{Minus}
+use Rattle.mql_mean.specs.declared.store.Store.{Store}
+use Rattle.std.proofs.lemmas.Bool.{eqb-true}
+use Rattle.mql_mean.specs.Means.{void_value, as_value, choose, turns, evaluates, value_of, values_of, does, does_row, does_all, calls}
+use Rattle.mql_mean.specs.Types.{is_void, count}
 use Rattle.stack_vm.specs.declared.code.Code.{Code}
 use Rattle.stack_vm.specs.declared.code.Instruction.{Instruction}
 use Rattle.stack_vm.specs.declared.code.Instruction.TheVariants as op
@@ -26,7 +30,7 @@ use Rattle.stack_vm.specs.declared.state.Operand.{Operand}
 use Rattle.stack_vm.specs.declared.state.Operand.TheVariants.{Value as Val, Place as At}
 use Rattle.stack_vm.specs.Machine as m
 use Rattle.stack_vm.specs.Machine.{On, Halt, land, Taken, beside, take_values, effect, give, with_value, goes, branch, label_at, constant_of, native_on, fetch, act, advance, iter, Comes, starts}
-use Rattle.mql_lower.specs.Stands.{One, Constant, ExpressionAt, RowAt, LetGo, StatementAt, StatementsAt, BodyAt, FunctionAt, HoldsIn}
+use Rattle.mql_lower.specs.Stands.{One, Constant, StuckIf, ExpressionAt, ValueAt, RowAt, LetGo, StatementAt, StatementsAt, BodyAt, FunctionAt, HoldsIn}
 
 -- steps do not grow past a bound
 abbrev Within : {A : Type 0} → ℕ → Res A → Type 0
@@ -192,56 +196,56 @@ module _ (code : Code) where
         more v (Go vs n w) h = ap suc h
         more v (End e n w) h = tt
 
-    module _ (locals : List IntKind) where
-      -- a row of expressions that are values
-      abbrev Values : {m : _} → Row_of-Expression m → Type 0
-      Values end_of-Expression = Unit {0}
-      Values (more_of-Expression e es) = (is_void e ≡ false) × Typed locals e × Values es
+    -- where the source means nothing, the machine is stuck
+    stuck_comes : (pc pc' : ℕ) (ops : List Operand) (n : ℕ) (w : World) → StuckIf HasIn HoldsHere LabelIn true pc pc' → Comes code (On fn pc ops n w) (Halt Stuck n w)
+    stuck_comes pc pc' ops n w at =
+        let c = constant_runs n pc at.mid void_value ops n w at.fst (omega arith) in
+        glue c.comes.instructions _ _ _ c.comes.is (goes_on _ _ (one (op.Plain ef.Read) at.mid pc' (Val void_value ∷ ops) n w at.snd))
 
-      number_value : (e : Expression) → Is (kind_of locals e) → is_void e ≡ false
-      number_value (Text s) k = refl
-      number_value (Number k x) i = refl
-      number_value (Local local) k = refl
-      number_value (Apply' o k row args) i = refl
-      number_value (Native' native row args) k = absurd k
+    -- a value in its place
+    placed_runs : (t : Bool) (b pc pc' : ℕ) (v : Value) (ops : List Operand) (n : ℕ) (w : World) → StuckIf HasIn HoldsHere LabelIn t pc pc' → n ≤ b → Runs b (On fn pc (give t v ops) n w) (as_value t v n w) (λ v n w. On fn pc' (Val v ∷ ops) n w)
+    placed_runs true b pc pc' v ops n w at le = record { comes = stuck_comes pc pc' ops n w at; within = tt }
+    placed_runs false b pc pc' v ops n w at le = done_runs b _ v n w _ le (stays _ _ (ap (λ p. On fn p (Val v ∷ ops) n w) at))
 
-      prints_value : (e : Expression) → Prints locals e → is_void e ≡ false
-      prints_value (Text s) k = refl
-      prints_value (Number k x) i = refl
-      prints_value (Local local) k = refl
-      prints_value (Apply' o k row args) i = refl
-      prints_value (Native' native row args) k = absurd k
+    -- an operator with another number of operands means nothing
+    apply_stuck : (o : Operator) (k : IntKind) (vs : List Value) (store : Store) → (length vs == arity o) ≡ false → apply o k vs store ≡ Bad Stuck
+    apply_stuck (Unary Minus) k [] store e = refl
+    apply_stuck (Unary Minus) k (x ∷ []) store e = absurd (subst (λ t. elim t as (λ _. Type 0) [ true ↦ Unit {0} | false ↦ ⊥ ]) e (tt {0}))
+    apply_stuck (Unary Minus) k (x ∷ y ∷ vs) store e = refl
+    apply_stuck (Binary o) k [] store e = refl
+    apply_stuck (Binary o) k (x ∷ []) store e = refl
+    apply_stuck (Binary o) k (x ∷ y ∷ []) store e = absurd (subst (λ t. elim t as (λ _. Type 0) [ true ↦ Unit {0} | false ↦ ⊥ ]) e (tt {0}))
+    apply_stuck (Binary o) k (x ∷ y ∷ z ∷ vs) store e = refl
 
-      of_numbers : {m : _} (es : Row_of-Expression m) → TypedNumbers locals es → Values es
-      of_numbers end_of-Expression t = tt
-      of_numbers (more_of-Expression e es) t = (number_value e t.0, t.1, of_numbers es t.2)
+    -- an operator on the operands that were written for it
+    operator_runs : (t : Bool) (b : ℕ) (o : Operator) (k : IntKind) (pc mid pc' : ℕ) (vs : List Value) (ops : List Operand) (n : ℕ) (w : World) → (length vs == arity o) ≡ t → StuckIf HasIn HoldsHere LabelIn (not t) pc mid → One HasIn HoldsHere LabelIn (op.Plain (ef.Apply o k)) mid pc' → n ≤ b → Runs b (On fn pc (push vs ops) n w) (lift (apply o k vs w.store) n w) (λ v n w. On fn pc' (Val v ∷ ops) n w)
+    operator_runs true b o k pc mid pc' vs ops n w e stuck at le =
+        from_runs b _ _ _ _ (stays _ _ (ap (λ p. On fn p (push vs ops) n w) stuck)) (apply_runs b o k mid pc' vs ops n w at (eqb-true (length vs) (arity o) e) le)
+    operator_runs false b o k pc mid pc' vs ops n w e stuck at le =
+        subst (λ r. Runs b (On fn pc (push vs ops) n w) (lift r n w) (λ v n w. On fn pc' (Val v ∷ ops) n w)) (sym (apply_stuck o k vs w.store e)) (record { comes = stuck_comes pc mid (push vs ops) n w stuck; within = tt })
 
-      of_prints : {m : _} (es : Row_of-Expression m) → TypedRow locals es → Values es
-      of_prints end_of-Expression t = tt
-      of_prints (more_of-Expression e es) t = (prints_value e t.0, t.1, of_prints es t.2)
+    mutual
+      expression_runs : (e : Expression) (pc pc' : ℕ) (ops : List Operand) (b n : ℕ) (w : World) → ExpressionAt HasIn HoldsHere LabelIn e pc pc' → n ≤ b → Runs b (On fn pc ops n w) (evaluates e n w) (λ v n w. On fn pc' (give (is_void e) v ops) n w)
+      expression_runs (Text s) pc pc' ops b n w at le = constant_runs b pc pc' (Str s) ops n w at le
+      expression_runs (Number k x) pc pc' ops b n w at le = constant_runs b pc pc' (Num k x) ops n w at le
+      expression_runs (Local local) pc pc' ops b n w at le = local_runs b local pc at.mid pc' ops n w at.fst at.snd le
+      expression_runs (Apply' o k row args) pc pc' ops b n w at le =
+          then_runs_if (λ vs. length vs ≡ count args) b _ _ _ _ _ (row_count args n w) (row_runs args pc at.mid ops b n w at.fst le)
+          λ vs n w e le. operator_runs (length vs == arity o) b o k at.mid at.snd.mid pc' vs ops n w refl (subst (λ c. StuckIf HasIn HoldsHere LabelIn (not (c == arity o)) at.mid at.snd.mid) (sym e) at.snd.fst) at.snd.snd le
+      expression_runs (Native' native row args) pc pc' ops b n w at le =
+          then_runs_if (λ vs. length vs ≡ count args) b _ _ _ _ _ (row_count args n w) (row_runs args pc at.mid ops b n w at.fst le)
+          λ vs n w e le. native_runs b native (count args) at.mid pc' vs ops n w at.snd e le
 
-      mutual
-        expression_runs : (e : Expression) (pc pc' : ℕ) (ops : List Operand) (b n : ℕ) (w : World) → Typed locals e → ExpressionAt HasIn HoldsHere LabelIn e pc pc' → n ≤ b → Runs b (On fn pc ops n w) (value_of e n w) (λ v n w. On fn pc' (give (is_void e) v ops) n w)
-        expression_runs (Text s) pc pc' ops b n w t at le = constant_runs b pc pc' (Str s) ops n w at le
-        expression_runs (Number k x) pc pc' ops b n w t at le = constant_runs b pc pc' (Num k x) ops n w at le
-        expression_runs (Local local) pc pc' ops b n w t at le = local_runs b local pc at.mid pc' ops n w at.fst at.snd le
-        expression_runs (Apply' o k row args) pc pc' ops b n w t at le =
-            then_runs_if (λ vs. length vs ≡ count args) b _ _ _ _ _ (row_count args n w) (row_runs args pc at.mid ops b n w (of_numbers args t.1) at.fst le)
-            λ vs n w e le. apply_runs b o k at.mid pc' vs ops n w at.snd (e ∙ t.0) le
-        expression_runs (Native' native row args) pc pc' ops b n w t at le =
-            then_runs_if (λ vs. length vs ≡ count args) b _ _ _ _ _ (row_count args n w) (row_runs args pc at.mid ops b n w (of_prints args t) at.fst le)
-            λ vs n w e le. native_runs b native (count args) at.mid pc' vs ops n w at.snd e le
+      row_runs : {m : _} (es : Row_of-Expression m) (pc pc' : ℕ) (ops : List Operand) (b n : ℕ) (w : World) → RowAt HasIn HoldsHere LabelIn es pc pc' → n ≤ b → Runs b (On fn pc ops n w) (values_of es n w) (λ vs n w. On fn pc' (push vs ops) n w)
+      row_runs end_of-Expression pc pc' ops b n w at le = done_runs b _ [] n w _ le (stays _ _ (ap (λ p. On fn p ops n w) at))
+      row_runs (more_of-Expression e es) pc pc' ops b n w at le =
+          then_runs b _ _ _ _ _ (then_runs b _ _ _ _ _ (expression_runs e pc at.fst.mid ops b n w at.fst.fst le) λ v n w le. placed_runs (is_void e) b at.fst.mid at.mid v ops n w at.fst.snd le)
+          λ v n w le. then_runs b _ _ _ _ _ (row_runs es at.mid pc' (Val v ∷ ops) b n w at.snd le)
+          λ vs n w le. done_runs b _ (v ∷ vs) n w _ le (stays _ _ refl)
 
-        row_runs : {m : _} (es : Row_of-Expression m) (pc pc' : ℕ) (ops : List Operand) (b n : ℕ) (w : World) → Values es → RowAt HasIn HoldsHere LabelIn es pc pc' → n ≤ b → Runs b (On fn pc ops n w) (values_of es n w) (λ vs n w. On fn pc' (push vs ops) n w)
-        row_runs end_of-Expression pc pc' ops b n w t at le = done_runs b _ [] n w _ le (stays _ _ (ap (λ p. On fn p ops n w) at))
-        row_runs (more_of-Expression e es) pc pc' ops b n w t at le =
-            then_runs b _ _ _ _ _ (subst (λ v'. Runs b (On fn pc ops n w) (value_of e n w) (λ v n w. On fn at.mid (give v' v ops) n w)) t.0 (expression_runs e pc at.mid ops b n w t.1 at.fst le))
-            λ v n w le. then_runs b _ _ _ _ _ (row_runs es at.mid pc' (Val v ∷ ops) b n w t.2 at.snd le)
-            λ vs n w le. done_runs b _ (v ∷ vs) n w _ le (stays _ _ refl)
-
-      -- an expression that is a value
-      value_runs : (e : Expression) (pc pc' : ℕ) (ops : List Operand) (b n : ℕ) (w : World) → is_void e ≡ false → Typed locals e → ExpressionAt HasIn HoldsHere LabelIn e pc pc' → n ≤ b → Runs b (On fn pc ops n w) (value_of e n w) (λ v n w. On fn pc' (Val v ∷ ops) n w)
-      value_runs e pc pc' ops b n w v t at le = subst (λ v'. Runs b (On fn pc ops n w) (value_of e n w) (λ v n w. On fn pc' (give v' v ops) n w)) v (expression_runs e pc pc' ops b n w t at le)
+    -- an expression in the place of a value
+    value_runs : (e : Expression) (pc pc' : ℕ) (ops : List Operand) (b n : ℕ) (w : World) → ValueAt HasIn HoldsHere LabelIn e pc pc' → n ≤ b → Runs b (On fn pc ops n w) (value_of e n w) (λ v n w. On fn pc' (Val v ∷ ops) n w)
+    value_runs e pc pc' ops b n w at le = then_runs b _ _ _ _ _ (expression_runs e pc at.mid ops b n w at.fst le) λ v n w le. placed_runs (is_void e) b at.mid pc' v ops n w at.snd le
 
     line_runs : (b line pc pc' : ℕ) (ops : List Operand) (n : ℕ) (w : World) → One HasIn HoldsHere LabelIn (op.Plain (ef.Line line)) pc pc' → n ≤ b → Runs b (On fn pc ops n w) (lift (set_line line w.store) n w) (λ _ n w. On fn pc' ops n w)
     line_runs b line pc pc' ops n w at le = one_runs b (op.Plain (ef.Line line)) pc pc' (set_line line w.store) (λ _. ops) ops n w at le refl
@@ -256,74 +260,71 @@ module _ (code : Code) where
     spend_runs b pc pc' ops (suc n) w go f at r =
         from_runs b _ _ (go n w) f (goes_on _ _ (one op.Step pc pc' ops (suc n) w at ∙ ap (λ p. On fn p ops n w) at.next)) (r n refl)
 
-    module _ (locals : List IntKind) (d : ℕ) where
+    module _ (d : ℕ) where
       abbrev Goal : ℕ → ℕ → List Operand → ℕ → Act (Unit {0}) → Type 0
       Goal pc pc' ops b go = (n : ℕ) (w : World) → n ≤ b → Runs b (On fn pc ops n w) (go n w) (λ _ n w. On fn pc' ops n w)
 
-      loop_runs : (t b line : ℕ) (e : Expression) (body : Act (Unit {0})) (top out pc p1 p2 p3 p4 p5 p6 pc' : ℕ) (ops : List Operand) → is_void e ≡ false → Typed locals e → label_at code fn top ≡ Some pc → label_at code fn out ≡ Some pc' → One HasIn HoldsHere LabelIn op.Step pc p1 → ExpressionAt HasIn HoldsHere LabelIn e p1 p2 → One HasIn HoldsHere LabelIn (op.Unless out) p2 p3 → One HasIn HoldsHere LabelIn (op.Plain (ef.Line line)) p4 p5 → One HasIn HoldsHere LabelIn (op.Jump top) p5 p6 → ((a : ℕ) → a ≤ d → Goal p3 p4 ops a body) → b ≤ t → t ≤ d → Goal pc pc' ops b (turns t line (value_of e) body)
-      loop_runs zero b line e body top out pc p1 p2 p3 p4 p5 p6 pc' ops v ty at_top at_out step test un ln jump body_runs bt td n w le =
+      loop_runs : (t b line : ℕ) (e : Expression) (body : Act (Unit {0})) (top out pc p1 p2 p3 p4 p5 p6 pc' : ℕ) (ops : List Operand) → label_at code fn top ≡ Some pc → label_at code fn out ≡ Some pc' → One HasIn HoldsHere LabelIn op.Step pc p1 → ValueAt HasIn HoldsHere LabelIn e p1 p2 → One HasIn HoldsHere LabelIn (op.Unless out) p2 p3 → One HasIn HoldsHere LabelIn (op.Plain (ef.Line line)) p4 p5 → One HasIn HoldsHere LabelIn (op.Jump top) p5 p6 → ((a : ℕ) → a ≤ d → Goal p3 p4 ops a body) → b ≤ t → t ≤ d → Goal pc pc' ops b (turns t line (value_of e) body)
+      loop_runs zero b line e body top out pc p1 p2 p3 p4 p5 p6 pc' ops at_top at_out step test un ln jump body_runs bt td n w le =
           spend_runs b pc p1 ops n w _ _ step λ k e. absurd (omega (arith, le, bt, e))
-      loop_runs (suc t) b line e body top out pc p1 p2 p3 p4 p5 p6 pc' ops v ty at_top at_out step test un ln jump body_runs bt td n w le =
+      loop_runs (suc t) b line e body top out pc p1 p2 p3 p4 p5 p6 pc' ops at_top at_out step test un ln jump body_runs bt td n w le =
           spend_runs b pc p1 ops n w _ _ step λ k ek. weaken k b _ _ _ (omega (arith, ek, le))
-          (then_runs k _ _ _ _ _ (value_runs locals e p1 p2 ops k k w v ty test (omega arith))
+          (then_runs k _ _ _ _ _ (value_runs e p1 p2 ops k k w test (omega arith))
           λ x n w lx. unless_runs k out p2 p3 pc' x ops n w _ _ _ un at_out lx
           (λ n w lx. then_runs k _ _ _ _ _ (body_runs k (omega (arith, ek, le, bt, td)) n w lx)
           λ _ n w lx. then_runs k _ _ _ _ _ (line_runs k line p4 p5 ops n w ln lx)
           λ _ n w lx. from_runs k _ _ _ _ (jump_comes top p5 p6 pc ops n w jump at_top)
-          (loop_runs t k line e body top out pc p1 p2 p3 p4 p5 p6 pc' ops v ty at_top at_out step test un ln jump body_runs (omega (arith, ek, le, bt)) (omega (arith, td)) n w lx))
+          (loop_runs t k line e body top out pc p1 p2 p3 p4 p5 p6 pc' ops at_top at_out step test un ln jump body_runs (omega (arith, ek, le, bt)) (omega (arith, td)) n w lx))
           (λ n w lx. done_runs k _ tt n w _ lx (stays _ _ refl)))
 
-      bool_value : (e : Expression) (k : IntKind) → kind_of locals e ≡ Some k → is_void e ≡ false
-      bool_value e k q = number_value locals e (subst (λ (o : Option IntKind). Is o) (sym q) (tt {0}))
-
       mutual
-        statement_runs : (s : Statement) (pc pc' : ℕ) (ops : List Operand) (b : ℕ) → TypedStatement locals s → StatementAt HasIn HoldsHere LabelIn s pc pc' → b ≤ d → Goal pc pc' ops b (does d s)
-        statement_runs (Empty line) pc pc' ops b t at lb n w le = line_runs b line pc pc' ops n w at le
-        statement_runs (Block' line row body) pc pc' ops b t at lb n w le =
+        statement_runs : (s : Statement) (pc pc' : ℕ) (ops : List Operand) (b : ℕ) → StatementAt HasIn HoldsHere LabelIn s pc pc' → b ≤ d → Goal pc pc' ops b (does d s)
+        statement_runs (Empty line) pc pc' ops b at lb n w le = line_runs b line pc pc' ops n w at le
+        statement_runs (Block' line row body) pc pc' ops b at lb n w le =
             then_runs b _ _ _ _ _ (line_runs b line pc at.mid ops n w at.fst le)
-            λ _ n w le. statements_run body at.mid pc' ops b t at.snd lb n w le
-        statement_runs (Evaluate line e) pc pc' ops b t at lb n w le =
+            λ _ n w le. statements_run body at.mid pc' ops b at.snd lb n w le
+        statement_runs (Evaluate line e) pc pc' ops b at lb n w le =
             then_runs b _ _ _ _ _ (line_runs b line pc at.mid ops n w at.fst le)
-            λ _ n w le. then_runs b _ _ _ _ _ (expression_runs locals e at.mid at.snd.mid ops b n w t at.snd.fst le)
+            λ _ n w le. then_runs b _ _ _ _ _ (expression_runs e at.mid at.snd.mid ops b n w at.snd.fst le)
             λ v n w le. go_runs b (is_void e) at.snd.mid pc' v ops n w at.snd.snd le
-        statement_runs (Assign line local e) pc pc' ops b t at lb n w le =
+        statement_runs (Assign line local e) pc pc' ops b at lb n w le =
             then_runs b _ _ _ _ _ (line_runs b line pc at.mid ops n w at.fst le)
-            λ _ n w le. then_runs b _ _ _ _ _ (value_runs locals e at.mid at.snd.mid ops b n w (number_value locals e (subst (λ (o : Option IntKind). Is o) (sym t.1) t.0)) t.2 at.snd.fst le)
+            λ _ n w le. then_runs b _ _ _ _ _ (value_runs e at.mid at.snd.mid ops b n w at.snd.fst le)
             λ v n w le. from_runs b _ _ _ _ (goes_on _ _ (one (op.Plain (ef.Local local)) at.snd.mid at.snd.snd.mid (Val v ∷ ops) n w at.snd.snd.fst ∙ ap (λ p. On fn p (At local ∷ Val v ∷ ops) n w) at.snd.snd.fst.next))
             (one_runs b (op.Plain ef.Write) at.snd.snd.mid pc' (write local v w.store) (λ _. ops) (At local ∷ Val v ∷ ops) n w at.snd.snd.snd le refl)
-        statement_runs (If' line e row body) pc pc' ops b t at lb n w le =
+        statement_runs (If' line e row body) pc pc' ops b at lb n w le =
             let a = at.is.fst in let out = at.is.snd in
             then_runs b _ _ _ _ _ (line_runs b line pc a.mid ops n w a.fst le)
-            λ _ n w le. then_runs b _ _ _ _ _ (value_runs locals e a.mid a.snd.mid ops b n w (bool_value e _ t.0) t.1 a.snd.fst le)
+            λ _ n w le. then_runs b _ _ _ _ _ (value_runs e a.mid a.snd.mid ops b n w a.snd.fst le)
             λ v n w le. unless_runs b at.label a.snd.mid a.snd.snd.mid pc' v ops n w _ _ _ a.snd.snd.fst out.at le
-            (λ n w le. subst (λ p. Runs b (On fn a.snd.snd.mid ops n w) (does_row d body n w) (λ _ n w. On fn p ops n w)) out.same (statements_run body a.snd.snd.mid at.is.mid ops b t.2 a.snd.snd.snd lb n w le))
+            (λ n w le. subst (λ p. Runs b (On fn a.snd.snd.mid ops n w) (does_row d body n w) (λ _ n w. On fn p ops n w)) out.same (statements_run body a.snd.snd.mid at.is.mid ops b a.snd.snd.snd lb n w le))
             (λ n w le. done_runs b _ tt n w _ le (stays _ _ refl))
-        statement_runs (While' line e row body) pc pc' ops b t at lb n w le =
+        statement_runs (While' line e row body) pc pc' ops b at lb n w le =
             let a = at.is.fst in let out = at.is.snd in let l = a.snd in let h = l.is.fst in let a1 = l.is.snd in let a2 = a1.snd in let a3 = a2.snd in let a4 = a3.snd in let a5 = a4.snd in
             then_runs b _ _ _ _ _ (line_runs b line pc a.mid ops n w a.fst le)
             λ _ n w le. from_runs b _ _ _ _ (stays _ _ (ap (λ p. On fn p ops n w) h.same))
-            (loop_runs d b line e (does_row d body) l.label at.label l.is.mid a1.mid a2.mid a3.mid a4.mid a5.mid at.is.mid pc' ops (bool_value e _ t.0) t.1 h.at out.at a1.fst a2.fst a3.fst a5.fst a5.snd (λ a la. statements_run body a3.mid a4.mid ops a t.2 a4.fst la) lb (omega arith) n w le)
+            (loop_runs d b line e (does_row d body) l.label at.label l.is.mid a1.mid a2.mid a3.mid a4.mid a5.mid at.is.mid pc' ops h.at out.at a1.fst a2.fst a3.fst a5.fst a5.snd (λ a la. statements_run body a3.mid a4.mid ops a a4.fst la) lb (omega arith) n w le)
 
-        statements_run : {m : _} (ss : Row_of-Statement m) (pc pc' : ℕ) (ops : List Operand) (b : ℕ) → TypedStatements locals ss → StatementsAt HasIn HoldsHere LabelIn ss pc pc' → b ≤ d → Goal pc pc' ops b (does_row d ss)
-        statements_run end_of-Statement pc pc' ops b t at lb n w le = done_runs b _ tt n w _ le (stays _ _ (ap (λ p. On fn p ops n w) at))
-        statements_run (more_of-Statement s rest) pc pc' ops b t at lb n w le =
-            then_runs b _ _ _ _ _ (statement_runs s pc at.mid ops b t.0 at.fst lb n w le)
-            λ _ n w le. statements_run rest at.mid pc' ops b t.1 at.snd lb n w le
+        statements_run : {m : _} (ss : Row_of-Statement m) (pc pc' : ℕ) (ops : List Operand) (b : ℕ) → StatementsAt HasIn HoldsHere LabelIn ss pc pc' → b ≤ d → Goal pc pc' ops b (does_row d ss)
+        statements_run end_of-Statement pc pc' ops b at lb n w le = done_runs b _ tt n w _ le (stays _ _ (ap (λ p. On fn p ops n w) at))
+        statements_run (more_of-Statement s rest) pc pc' ops b at lb n w le =
+            then_runs b _ _ _ _ _ (statement_runs s pc at.mid ops b at.fst lb n w le)
+            λ _ n w le. statements_run rest at.mid pc' ops b at.snd lb n w le
 
-      body_runs : (ss : List Statement) (pc pc' : ℕ) (ops : List Operand) (b : ℕ) → TypedBody locals ss → BodyAt HasIn HoldsHere LabelIn ss pc pc' → b ≤ d → Goal pc pc' ops b (does_all d ss)
-      body_runs [] pc pc' ops b t at lb n w le = done_runs b _ tt n w _ le (stays _ _ (ap (λ p. On fn p ops n w) at))
-      body_runs (s ∷ rest) pc pc' ops b t at lb n w le =
-          then_runs b _ _ _ _ _ (statement_runs s pc at.mid ops b t.0 at.fst lb n w le)
-          λ _ n w le. body_runs rest at.mid pc' ops b t.1 at.snd lb n w le
+      body_runs : (ss : List Statement) (pc pc' : ℕ) (ops : List Operand) (b : ℕ) → BodyAt HasIn HoldsHere LabelIn ss pc pc' → b ≤ d → Goal pc pc' ops b (does_all d ss)
+      body_runs [] pc pc' ops b at lb n w le = done_runs b _ tt n w _ le (stays _ _ (ap (λ p. On fn p ops n w) at))
+      body_runs (s ∷ rest) pc pc' ops b at lb n w le =
+          then_runs b _ _ _ _ _ (statement_runs s pc at.mid ops b at.fst lb n w le)
+          λ _ n w le. body_runs rest at.mid pc' ops b at.snd lb n w le
 
     -- a function
-    function_runs : (f : Function) (locals : List IntKind) (end : ℕ) (d b n : ℕ) (w : World) → locals ≡ f.locals → TypedBody f.locals f.body → FunctionAt HasIn HoldsHere LabelIn f 0 end → n ≤ b → b ≤ d → Runs b (land (lift (enter locals w.store) n w) (λ _ n w. On fn 0 [] n w)) (calls d (Some f) n w) (λ v n w. Halt (Returned v) n w)
-    function_runs f locals end d b n w same t at le lb =
+    function_runs : (f : Function) (locals : List IntKind) (end : ℕ) (d b n : ℕ) (w : World) → locals ≡ f.locals → FunctionAt HasIn HoldsHere LabelIn f 0 end → n ≤ b → b ≤ d → Runs b (land (lift (enter locals w.store) n w) (λ _ n w. On fn 0 [] n w)) (calls d (Some f) n w) (λ v n w. Halt (Returned v) n w)
+    function_runs f locals end d b n w same at le lb =
         from_runs b _ _ _ _ (stays _ _ (ap (λ l. land (lift (enter l w.store) n w) (λ _ n w. On fn 0 [] n w)) same))
         (then_runs b _ _ _ _ _ (lift_here b n w (enter f.locals w.store) (λ _ n w. On fn 0 [] n w) le)
         λ _ n w le. spend_runs b 0 at.mid [] n w _ _ at.fst λ k e.
-        then_runs b _ _ _ _ _ (body_runs f.locals d f.body at.mid at.snd.mid [] b t at.snd.fst lb k w (omega (arith, e, le)))
+        then_runs b _ _ _ _ _ (body_runs d f.body at.mid at.snd.mid [] b at.snd.fst lb k w (omega (arith, e, le)))
         λ _ n w le. done_runs b _ void_value n (record w { store = leave w.store }) _ le (goes_on _ _ (one op.Return at.snd.mid end [] n w at.snd.snd)))
 
-  pub function_comes : (fn : ℕ) (f : Function) (locals : List IntKind) (end : ℕ) (n : ℕ) (w : World) → locals ≡ f.locals → TypedBody f.locals f.body → FunctionAt (HasIn fn) (HoldsIn code) (LabelIn fn) f 0 end → Comes code (land (lift (enter locals w.store) n w) (λ _ n w. On fn 0 [] n w)) (land (calls n (Some f) n w) (λ v n w. Halt (Returned v) n w))
-  function_comes fn f locals end n w same t at = (function_runs fn f locals end n n n w same t at (omega arith) (omega arith)).comes
+  pub function_comes : (fn : ℕ) (f : Function) (locals : List IntKind) (end : ℕ) (n : ℕ) (w : World) → locals ≡ f.locals → FunctionAt (HasIn fn) (HoldsIn code) (LabelIn fn) f 0 end → Comes code (land (lift (enter locals w.store) n w) (λ _ n w. On fn 0 [] n w)) (land (calls n (Some f) n w) (λ v n w. Halt (Returned v) n w))
+  function_comes fn f locals end n w same at = (function_runs fn f locals end n n n w same at (omega arith) (omega arith)).comes

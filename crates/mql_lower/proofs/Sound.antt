@@ -4,10 +4,10 @@ use Rattle.fx8.specs.declared.int_kind.IntKind.{IntKind}
 use Rattle.fx8.specs.declared.int_kind.IntKind.TheVariants.{Bool as BoolKind}
 use Rattle.mql_mean.specs.Natives.{native_void, is_int}
 use Rattle.mql_mean.specs.Apply.{arity, result_kind}
-use Rattle.std.proofs.Common.{◌≡◌, ℕ, ℤ, zero, suc, ◌+◌, ◌<◌, ◌≤◌, Bool, true, false, List, [], ◌∷◌, ◌++◌, length, Option, Some, None, refl, sym, ap, ◌∙◌, subst, arith, add-one, ⊎_elim}
+use Rattle.std.proofs.Common.{◌≡◌, ℕ, ℤ, zero, suc, ◌+◌, ◌<◌, ◌≤◌, ◌==◌, not, nat_lt, if◌then◌else◌, Bool, true, false, List, [], ◌∷◌, ◌++◌, length, Option, Some, None, refl, sym, ap, ◌∙◌, subst, arith, add-one, ⊎_elim}
 use Rattle.std.specs.Prelude.{slice_get}
-use Rattle.std.proofs.lemmas.Option.{slice_get_within}
-use Rattle.std.proofs.lemmas.Bool.{cases_lt}
+use Rattle.std.proofs.lemmas.Option.{slice_get_within, slice_get_past}
+use Rattle.std.proofs.lemmas.Bool.{cases_lt, eq-eqb, ltb-true, ltb-false}
 use Rattle.mql_mean.specs.declared.value.Value.{Value, out-Value}
 use Rattle.mql_mean.specs.declared.value.Value.TheVariants.{Num, Str}
 use Rattle.mql_mean.specs.declared.tree.Native.{Native}
@@ -30,8 +30,8 @@ use Rattle.stack_vm.specs.declared.code.Instruction.TheVariants as op
 use Rattle.stack_vm.specs.declared.code.Effect.TheVariants as ef
 use Rattle.stack_vm.specs.Machine.{constant_of, constant_value, then_some, entry_of}
 use Rattle.stack_vm.specs.Valid.{Kind, Number as NumberKind, Text, Place, Other, kind_at, if_so, text_kind, constant_kind, after_const, after_local, after_apply, after_native, after, after_at, kinds_at, Target, Leads, IsFine, ValidFunction, IsValid}
-use Rattle.mql_lower.specs.Stands.{◌▷◌, One, Constant as ConstantAt, ExpressionAt, RowAt, LetGo, StatementAt, StatementsAt, BodyAt, HasOwn, HoldsIn, LabelOwn, CodeFor, EachFor}
-use Rattle.mql_lower.specs.Draft.{entries, all_functions, Compiled}
+use Rattle.mql_lower.specs.Stands.{◌▷◌, One, Constant as ConstantAt, StuckIf, ExpressionAt, ValueAt, RowAt, LetGo, StatementAt, StatementsAt, BodyAt, HasOwn, HoldsIn, LabelOwn, CodeFor, EachFor}
+use Rattle.mql_lower.specs.Draft.{entries, there, all_functions, Compiled}
 use Rattle.mql_lower.proofs.Emits.{then_is, slice_get_more}
 use Rattle.mql_lower.proofs.Whole.{each_length}
 
@@ -118,17 +118,24 @@ module _ (H : ℕ → Instruction → Type 0) (C : ℕ → Value → Type 0) (L 
   one_le : (i : Instruction) (a b : ℕ) → One H C L i a b → a ≤ b
   one_le i a b s = omega (arith, s.next)
 
+  stuck_le : (t : Bool) (a b : ℕ) → StuckIf H C L t a b → a ≤ b
+  stuck_le true a b s = omega (arith, s.fst.one.next, s.snd.next)
+  stuck_le false a b s = omega (arith, s)
+
   mutual
     expression_le : (e : Expression) (a b : ℕ) → ExpressionAt H C L e a b → a ≤ b
     expression_le (x.Text s) a b t = one_le _ a b t.one
     expression_le (Number k n) a b t = one_le _ a b t.one
     expression_le (Local local) a b t = seq_le _ _ a b (one_le _) (one_le _) t
-    expression_le (Apply' o k row args) a b t = seq_le _ _ a b (row_le args) (one_le _) t
+    expression_le (Apply' o k row args) a b t = seq_le _ _ a b (row_le args) (λ a b. seq_le _ _ a b (stuck_le (not (count args == arity o))) (one_le _)) t
     expression_le (Native' native row args) a b t = seq_le _ _ a b (row_le args) (one_le _) t
 
     row_le : {m : _} (es : Row_of-Expression m) (a b : ℕ) → RowAt H C L es a b → a ≤ b
     row_le end_of-Expression a b s = omega (arith, s)
-    row_le (more_of-Expression e es) a b s = seq_le _ _ a b (expression_le e) (row_le es) s
+    row_le (more_of-Expression e es) a b s = seq_le _ _ a b (λ a b. seq_le _ _ a b (expression_le e) (stuck_le (is_void e))) (row_le es) s
+
+  value_le : (e : Expression) (a b : ℕ) → ValueAt H C L e a b → a ≤ b
+  value_le e a b s = seq_le _ _ a b (expression_le e) (stuck_le (is_void e)) s
 
   go_le : (v : Bool) (a b : ℕ) → LetGo H C L v a b → a ≤ b
   go_le true a b s = omega (arith, s)
@@ -139,13 +146,13 @@ module _ (H : ℕ → Instruction → Type 0) (C : ℕ → Value → Type 0) (L 
     statement_le (Empty line) a b t = one_le _ a b t
     statement_le (Block' line row body) a b t = seq_le _ _ a b (one_le _) (statements_le body) t
     statement_le (Evaluate line e) a b t = seq_le _ _ a b (one_le _) (λ a b. seq_le _ _ a b (expression_le e) (go_le (is_void e))) t
-    statement_le (Assign line local e) a b t = seq_le _ _ a b (one_le _) (λ a b. seq_le _ _ a b (expression_le e) (λ a b. seq_le _ _ a b (one_le _) (one_le _))) t
+    statement_le (Assign line local e) a b t = seq_le _ _ a b (one_le _) (λ a b. seq_le _ _ a b (value_le e) (λ a b. seq_le _ _ a b (one_le _) (one_le _))) t
     statement_le (If' line e row body) a b t =
-        let u = seq_le _ _ a t.is.mid (one_le _) (λ a b. seq_le _ _ a b (expression_le e) (λ a b. seq_le _ _ a b (one_le _) (statements_le body))) t.is.fst in omega (arith, u, t.is.snd.same)
+        let u = seq_le _ _ a t.is.mid (one_le _) (λ a b. seq_le _ _ a b (value_le e) (λ a b. seq_le _ _ a b (one_le _) (statements_le body))) t.is.fst in omega (arith, u, t.is.snd.same)
     statement_le (While' line e row body) a b t =
         let l = t.is.fst.snd in
         let q = one_le _ a t.is.fst.mid t.is.fst.fst in
-        let u = seq_le _ _ l.is.mid t.is.mid (one_le _) (λ a b. seq_le _ _ a b (expression_le e) (λ a b. seq_le _ _ a b (one_le _) (λ a b. seq_le _ _ a b (statements_le body) (λ a b. seq_le _ _ a b (one_le _) (one_le _))))) l.is.snd in
+        let u = seq_le _ _ l.is.mid t.is.mid (one_le _) (λ a b. seq_le _ _ a b (value_le e) (λ a b. seq_le _ _ a b (one_le _) (λ a b. seq_le _ _ a b (statements_le body) (λ a b. seq_le _ _ a b (one_le _) (one_le _))))) l.is.snd in
         omega (arith, q, u, l.is.fst.same, t.is.snd.same)
 
     statements_le : {m : _} (ss : Row_of-Statement m) (a b : ℕ) → StatementsAt H C L ss a b → a ≤ b
@@ -224,18 +231,36 @@ module _ (code : Code) (c : FunctionCode) (last : ℕ) (end : last + 1 ≡ lengt
   native_sound : {m : _} (native : Native) (args : Row_of-Expression m) (pc pc' : ℕ) (ks : List Kind) → TypedRow c.locals args → One H C L (op.Native native (count args)) pc pc' → pc' ≤ last → Sound pc pc' (row_kinds c.locals args ks) (given (native_void native) ks)
   native_sound Print args pc pc' ks t at le = one_sound (op.Native Print (count args)) pc pc' (row_kinds c.locals args ks) ks at le (row_taken c.locals args 0 (count args) ks t (omega arith)) (λ h g l. l)
 
-  -- expressions of a row, each typed
+  number_value : (e : Expression) → Is (kind_of c.locals e) → is_void e ≡ false
+  number_value (x.Text s) k = refl
+  number_value (Number k n) i = refl
+  number_value (Local local) k = refl
+  number_value (Apply' o k row args) i = refl
+  number_value (Native' native row args) k = absurd k
+
+  prints_value : (e : Expression) → Prints c.locals e → is_void e ≡ false
+  prints_value (x.Text s) k = refl
+  prints_value (Number k n) i = refl
+  prints_value (Local local) k = refl
+  prints_value (Apply' o k row args) i = refl
+  prints_value (Native' native row args) k = absurd k
+
+  -- expressions of a row, each typed, that are values
   abbrev EachTyped : {m : _} → Row_of-Expression m → Type 0
   EachTyped end_of-Expression = Unit {0}
-  EachTyped (more_of-Expression e es) = Typed c.locals e × EachTyped es
+  EachTyped (more_of-Expression e es) = (is_void e ≡ false) × Typed c.locals e × EachTyped es
 
   of_numbers : {m : _} (es : Row_of-Expression m) → TypedNumbers c.locals es → EachTyped es
   of_numbers end_of-Expression t = tt
-  of_numbers (more_of-Expression e es) t = (t.1, of_numbers es t.2)
+  of_numbers (more_of-Expression e es) t = (number_value e t.0, t.1, of_numbers es t.2)
 
   of_prints : {m : _} (es : Row_of-Expression m) → TypedRow c.locals es → EachTyped es
   of_prints end_of-Expression t = tt
-  of_prints (more_of-Expression e es) t = (t.1, of_prints es t.2)
+  of_prints (more_of-Expression e es) t = (prints_value e t.0, t.1, of_prints es t.2)
+
+  -- no code is stuck where the source means something
+  free : (t : Bool) (a b : ℕ) → t ≡ false → StuckIf H C L t a b → a ≡ b
+  free t a b e s = subst (λ t. StuckIf H C L t a b) e s
 
   mutual
     expression_sound : (e : Expression) (pc pc' : ℕ) (ks : List Kind) → Typed c.locals e → ExpressionAt H C L e pc pc' → pc' ≤ last → Sound pc pc' ks (kinds_after c.locals e ks)
@@ -243,8 +268,10 @@ module _ (code : Code) (c : FunctionCode) (last : ℕ) (end : last + 1 ≡ lengt
     expression_sound (Number k n) pc pc' ks t at le = constant_sound (Num k n) (NumberKind k) pc pc' ks at le (number_kind_is k n)
     expression_sound (Local local) pc pc' ks t at le = local_sound (slice_get c.locals local) local pc at.mid pc' ks refl t at.fst at.snd le
     expression_sound (Apply' o k row args) pc pc' ks t at le =
-        then_sound pc at.mid pc' ks (row_kinds c.locals args ks) _ (row_sound args pc at.mid ks (of_numbers args t.1) at.fst (omega (arith, at.snd.next, le)))
-        (one_sound (op.Plain (ef.Apply o k)) at.mid pc' (row_kinds c.locals args ks) (NumberKind (result_kind o k) ∷ ks) at.snd le (numbers_taken c.locals args 0 (arity o) (result_kind o k) ks t.1 (omega (arith, t.0))) (λ h g l. (tt, l)))
+        let same = free (not (count args == arity o)) at.mid at.snd.mid (ap not (eq-eqb (count args) (arity o) t.0)) at.snd.fst in
+        then_sound pc at.mid pc' ks (row_kinds c.locals args ks) _ (row_sound args pc at.mid ks (of_numbers args t.1) at.fst (omega (arith, same, at.snd.snd.next, le)))
+        (then_sound at.mid at.snd.mid pc' (row_kinds c.locals args ks) (row_kinds c.locals args ks) _ (nothing_sound at.mid at.snd.mid (row_kinds c.locals args ks) same)
+        (one_sound (op.Plain (ef.Apply o k)) at.snd.mid pc' (row_kinds c.locals args ks) (NumberKind (result_kind o k) ∷ ks) at.snd.snd le (numbers_taken c.locals args 0 (arity o) (result_kind o k) ks t.1 (omega (arith, t.0))) (λ h g l. (tt, l))))
     expression_sound (Native' native row args) pc pc' ks t at le =
         then_sound pc at.mid pc' ks (row_kinds c.locals args ks) _ (row_sound args pc at.mid ks (of_prints args t) at.fst (omega (arith, at.snd.next, le))) (native_sound native args at.mid pc' ks t at.snd le)
 
@@ -252,7 +279,10 @@ module _ (code : Code) (c : FunctionCode) (last : ℕ) (end : last + 1 ≡ lengt
     row_sound end_of-Expression pc pc' ks t at le = nothing_sound pc pc' ks at
     row_sound (more_of-Expression e es) pc pc' ks t at le =
         let q = row_le H C L es at.mid pc' at.snd in
-        then_sound pc at.mid pc' ks (kinds_after c.locals e ks) _ (expression_sound e pc at.mid ks t.0 at.fst (omega (arith, q, le))) (row_sound es at.mid pc' (kinds_after c.locals e ks) t.1 at.snd le)
+        let same = free (is_void e) at.fst.mid at.mid t.0 at.fst.snd in
+        then_sound pc at.mid pc' ks (kinds_after c.locals e ks) _
+        (then_sound pc at.fst.mid at.mid ks (kinds_after c.locals e ks) _ (expression_sound e pc at.fst.mid ks t.1 at.fst.fst (omega (arith, q, same, le))) (nothing_sound at.fst.mid at.mid (kinds_after c.locals e ks) same))
+        (row_sound es at.mid pc' (kinds_after c.locals e ks) t.2 at.snd le)
 
   -- an expression's value is let go
   void_after : (e : Expression) → (is_void e ≡ true → kinds_after c.locals e [] ≡ []) × (is_void e ≡ false → (k : Kind) × (kinds_after c.locals e [] ≡ k ∷ []))
@@ -275,8 +305,11 @@ module _ (code : Code) (c : FunctionCode) (last : ℕ) (end : last + 1 ≡ lengt
   line_sound line pc pc' at le = one_sound (op.Plain (ef.Line line)) pc pc' [] [] at le refl (λ h g l. (tt, l))
 
   -- a number on top
-  number_sound : (e : Expression) (k : IntKind) (pc pc' : ℕ) → kind_of c.locals e ≡ Some k → Typed c.locals e → ExpressionAt H C L e pc pc' → pc' ≤ last → Sound pc pc' [] (NumberKind k ∷ [])
-  number_sound e k pc pc' q t at le = subst (Sound pc pc' []) (number_after c.locals e k [] q) (expression_sound e pc pc' [] t at le)
+  number_sound : (e : Expression) (k : IntKind) (pc pc' : ℕ) → kind_of c.locals e ≡ Some k → Typed c.locals e → ValueAt H C L e pc pc' → pc' ≤ last → Sound pc pc' [] (NumberKind k ∷ [])
+  number_sound e k pc pc' q t at le =
+      let same = free (is_void e) at.mid pc' (number_value e (subst (λ (o : Option IntKind). Is o) (sym q) (tt {0}))) at.snd in
+      subst (Sound pc pc' []) (number_after c.locals e k [] q)
+      (then_sound pc at.mid pc' [] (kinds_after c.locals e []) _ (expression_sound e pc at.mid [] t at.fst (omega (arith, same, le))) (nothing_sound at.mid pc' (kinds_after c.locals e []) same))
 
   -- a jump forward
   ahead : (label pc to : ℕ) → L label to → to ≤ last → pc < to → At to [] → Target code c pc label
@@ -308,14 +341,14 @@ module _ (code : Code) (c : FunctionCode) (last : ℕ) (end : last + 1 ≡ lengt
         (then_sound at.mid at.snd.mid pc' [] _ [] (expression_sound e at.mid at.snd.mid [] t at.snd.fst (omega (arith, q2, le))) (go_sound (is_void e) e at.snd.mid pc' refl at.snd.snd le))
     statement_sound (Assign line local e) pc pc' t at le =
         let a = at.snd in
-        let q1 = expression_le H C L e at.mid a.mid a.fst in
+        let q1 = value_le H C L e at.mid a.mid a.fst in
         let k = some_there (slice_get c.locals local) t.0 in
         then_sound pc at.mid pc' [] [] [] (line_sound line pc at.mid at.fst (omega (arith, q1, a.snd.fst.next, a.snd.snd.next, le)))
         (then_sound at.mid a.mid pc' [] (NumberKind k.0 ∷ []) [] (number_sound e k.0 at.mid a.mid (t.1 ∙ k.1) t.2 a.fst (omega (arith, a.snd.fst.next, a.snd.snd.next, le)))
         (assign_sound None local a.mid a.snd.mid pc' k.0 k.1 a.snd.fst a.snd.snd le))
     statement_sound (If' line e row body) pc pc' t at le =
         let a = at.is.fst in let h = at.is.snd in
-        let q1 = expression_le H C L e a.mid a.snd.mid a.snd.fst in
+        let q1 = value_le H C L e a.mid a.snd.mid a.snd.fst in
         let q3 = statements_le H C L body a.snd.snd.mid at.is.mid a.snd.snd.snd in
         let inner = statements_sound body a.snd.snd.mid at.is.mid t.2 a.snd.snd.snd (omega (arith, h.same, le)) in
         then_sound pc a.mid pc' [] [] [] (line_sound line pc a.mid a.fst (omega (arith, q1, q3, a.snd.snd.fst.next, h.same, le)))
@@ -324,7 +357,7 @@ module _ (code : Code) (c : FunctionCode) (last : ℕ) (end : last + 1 ≡ lengt
         (then_sound a.snd.snd.mid at.is.mid pc' [] [] [] inner (nothing_sound at.is.mid pc' [] h.same))))
     statement_sound (While' line e row body) pc pc' t at le =
         let a = at.is.fst in let out = at.is.snd in let l = a.snd in let top = l.is.fst in let a1 = l.is.snd in let a2 = a1.snd in let a3 = a2.snd in let a4 = a3.snd in let a5 = a4.snd in
-        let q2 = expression_le H C L e a1.mid a2.mid a2.fst in
+        let q2 = value_le H C L e a1.mid a2.mid a2.fst in
         let q4 = statements_le H C L body a3.mid a4.mid a4.fst in
         let n1 = a1.fst.next in let n3 = a3.fst.next in let n5 = a5.fst.next in let n6 = a5.snd.next in
         then_sound pc a.mid pc' [] [] [] (line_sound line pc a.mid a.fst (omega (arith, q2, q4, n1, n3, n5, n6, top.same, out.same, le)))
@@ -405,17 +438,21 @@ after_all : (fs : List Function) (f g : Function) → (slice_get (fs ++ f ∷ g 
 after_all [] f g = (refl, refl)
 after_all (x ∷ fs) f g = let r = after_all fs f g in let e : suc (length fs) + 1 ≡ suc (length fs + 1) = omega arith in (r.0, ap (slice_get (x ∷ fs ++ f ∷ g ∷ [])) e ∙ r.1)
 
-tick_pairs : (checked : Checked) (o : Option ℕ) → Names checked.functions o → Pairs checked o (numbered checked.functions o)
-tick_pairs checked None n = refl
-tick_pairs checked (Some k) n = let t = there_is checked.functions k n in (t.0, t.1, slice_get_more checked.functions (nothing ∷ nothing ∷ []) k t.0 t.1)
-
-pub pairs : (checked : Checked) (code : Code) → Types checked → Compiled checked code → (e : Entry) → Pairs checked (entry_of code.entries e) (event checked e)
-pairs checked code t h e = subst (λ es. Pairs checked (entry_of es e) (event checked e)) (sym h.entries) (of_entry e)
+tick_pairs : (checked : Checked) (o : Option ℕ) → Pairs checked (there (length checked.functions) o) (numbered checked.functions o)
+tick_pairs checked None = refl
+tick_pairs checked (Some k) = within (nat_lt k (length checked.functions)) refl
   where
-    of_entry : (e : Entry) → Pairs checked (entry_of (entries (Some (length checked.functions)) checked.tick (Some (length checked.functions + 1))) e) (event checked e)
+    within : (t : Bool) → nat_lt k (length checked.functions) ≡ t → Pairs checked (if t then Some k else None) (slice_get checked.functions k)
+    within true e = let t = there_is checked.functions k (ltb-true k (length checked.functions) e) in (t.0, t.1, slice_get_more checked.functions (nothing ∷ nothing ∷ []) k t.0 t.1)
+    within false e = slice_get_past checked.functions k (ltb-false k (length checked.functions) e)
+
+pub pairs : (checked : Checked) (code : Code) → Compiled checked code → (e : Entry) → Pairs checked (entry_of code.entries e) (event checked e)
+pairs checked code h e = subst (λ es. Pairs checked (entry_of es e) (event checked e)) (sym h.entries) (of_entry e)
+  where
+    of_entry : (e : Entry) → Pairs checked (entry_of (entries (Some (length checked.functions)) (there (length checked.functions) checked.tick) (Some (length checked.functions + 1))) e) (event checked e)
     of_entry Start = (nothing, refl, (after_all checked.functions nothing nothing).0)
     of_entry Init = refl
-    of_entry Tick = tick_pairs checked checked.tick t.tick
+    of_entry Tick = tick_pairs checked checked.tick
     of_entry Trade = refl
     of_entry Tester = refl
     of_entry Deinit = refl
@@ -424,7 +461,7 @@ pairs checked code t h e = subst (λ es. Pairs checked (entry_of es e) (event ch
 pub valid : (checked : Checked) (code : Code) → Types checked → Compiled checked code → IsValid code
 valid checked code t h = record {
   entries = λ e k is.
-      let p = subst (λ o. Pairs checked o (event checked e)) is (pairs checked code t h e) in
+      let p = subst (λ o. Pairs checked o (event checked e)) is (pairs checked code h e) in
       let w = slice_get_within (all_functions checked) k p.0 p.2 in
       omega (arith, w, each_length code (all_functions checked) code.functions h.each);
   functions = λ k c is. each_valid code (all_functions checked) code.functions (all_typed checked t) h.each k c is;

@@ -1,5 +1,5 @@
 -- A whole program's code.
-use Rattle.std.proofs.Common.{◌≡◌, ℕ, suc, ◌+◌, List, [], ◌∷◌, ◌++◌, length, Some, refl, sym, ap, ◌∙◌, subst, length-append, append_assoc}
+use Rattle.std.proofs.Common.{◌≡◌, ℕ, suc, ◌+◌, List, [], ◌∷◌, ◌++◌, length, Option, Some, refl, sym, ap, ◌∙◌, subst, length-append, append_assoc}
 use Rattle.std.specs.Prelude.{slice_get}
 use Rattle.mql_mean.specs.declared.value.Value.{Value}
 use Rattle.mql_mean.specs.declared.tree.Function.{Function}
@@ -13,7 +13,7 @@ use Rattle.stack_vm.specs.declared.code.Instruction.{Instruction}
 use Rattle.stack_vm.specs.declared.code.Instruction.TheVariants as op
 use Rattle.mql_lower.specs.declared.draft.Draft.{Draft}
 use Rattle.mql_lower.specs.Stands.{FunctionAt, HasOwn, HoldsIn, LabelOwn, CodeFor, EachFor}
-use Rattle.mql_lower.specs.Draft.{Has, Holds, Labelled, body_in, placed, Keeps, Grown, Emits, Adds, NewText, Compiles, entries, with_entries, Compiled}
+use Rattle.mql_lower.specs.Draft.{Has, Holds, Labelled, body_in, placed, Keeps, Grown, Emits, Adds, NewText, Compiles, entries, there, with_entries, Compiled}
 use Rattle.mql_lower.proofs.Emits.{seq_map, one_map, body_map, one_mono, body_mono, keeps_on, grown_on, adds, seq, text_grown, constant_keeps, slice_get_seam}
 
 pub function_map : (H H' : ℕ → Instruction → Type 0) (C C' : ℕ → Value → Type 0) (L L' : ℕ → ℕ → Type 0) → ((pc : ℕ) (i : Instruction) → H pc i → H' pc i) → ((k : ℕ) (v : Value) → C k v → C' k v) → ((k pc : ℕ) → L k pc → L' k pc) → (f : Function) (a b : ℕ) → FunctionAt H C L f a b → FunctionAt H' C' L' f a b
@@ -78,9 +78,9 @@ compiles f code name labels d1 d2 d3 d4 nt step body ret ls =
       );
     }
 
-pub compiled : (checked : Checked) (c0 c1 c2 : Code) (start stop : ℕ) → EachFor c0 checked.functions c0.functions → start ≡ length c0.functions → Compiles nothing c0 c1 → stop ≡ length c1.functions → Compiles nothing c1 c2 → Compiled checked (with_entries c2 start checked.tick stop)
-compiled checked c0 c1 c2 start stop h s k t l =
-    let new : Code = with_entries c2 start checked.tick stop in
+pub compiled : (checked : Checked) (c0 c1 c2 : Code) (start stop : ℕ) (tick : Option ℕ) → EachFor c0 checked.functions c0.functions → start ≡ length c0.functions → tick ≡ there start checked.tick → Compiles nothing c0 c1 → stop ≡ length c1.functions → Compiles nothing c1 c2 → Compiled checked (with_entries c2 start tick stop)
+compiled checked c0 c1 c2 start stop tick h s u k t l =
+    let new : Code = with_entries c2 start tick stop in
     let e1 = each_more c0 c1 checked.functions nothing h k in
     let e2 = each_more c1 c2 (checked.functions ++ nothing ∷ []) nothing e1 l in
     let keeps : Keeps c2 new = constant_keeps c2 new (λ t s h. h) (λ t k h. h) in
@@ -88,5 +88,5 @@ compiled checked c0 c1 c2 start stop h s k t l =
     let n1 : stop ≡ length checked.functions + 1 = t ∙ each_length c1 (checked.functions ++ nothing ∷ []) c1.functions e1 ∙ length-append checked.functions (nothing ∷ []) in
     record {
       each = subst (λ fs. EachFor new fs c2.functions) (append_assoc checked.functions (nothing ∷ []) (nothing ∷ [])) (each_keeps c2 new keeps _ c2.functions e2);
-      entries = ap (λ k. entries (Some k) checked.tick (Some stop)) n0 ∙ ap (λ k. entries (Some (length checked.functions)) checked.tick (Some k)) n1;
+      entries = ap (λ k. entries (Some k) tick (Some stop)) n0 ∙ ap (λ o. entries (Some (length checked.functions)) o (Some stop)) (u ∙ ap (λ k. there k checked.tick) n0) ∙ ap (λ k. entries (Some (length checked.functions)) (there (length checked.functions) checked.tick) (Some k)) n1;
     }

@@ -1,5 +1,5 @@
 -- Code in the making.
-use Rattle.std.specs.Prelude.{◌≡◌, ℕ, ◌+◌, List, [], ◌∷◌, ◌++◌, Option, Some, None, length, slice_get, slice_set}
+use Rattle.std.specs.Prelude.{◌≡◌, ℕ, ◌+◌, nat_lt, if◌then◌else◌, Bool, List, [], ◌∷◌, ◌++◌, Option, Some, None, length, slice_get, slice_set}
 use Rattle.mql_mean.specs.declared.value.Value.{Value}
 use Rattle.mql_mean.specs.declared.tree.Expression.{Expression}
 use Rattle.mql_mean.specs.declared.tree.Statement.{Statement}
@@ -15,7 +15,7 @@ use Rattle.stack_vm.specs.Machine.{constant_of}
 use Rattle.mql_lower.specs.declared.draft.Draft.{Draft}
 use Rattle.mql_mean.specs.Types.{is_void}
 use Rattle.stack_vm.specs.declared.code.Entries.{Entries}
-use Rattle.mql_lower.specs.Stands.{Span, ◌▷◌, Nothing, ExpressionAt, StatementAt, LetGo, BodyAt, EachFor}
+use Rattle.mql_lower.specs.Stands.{Span, ◌▷◌, Nothing, StuckIf, ExpressionAt, ValueAt, StatementAt, LetGo, BodyAt, EachFor}
 
 -- an instruction stands at a place of a draft
 abbrev pub Has : Draft → ℕ → Instruction → Type 0
@@ -33,10 +33,18 @@ Labelled d label pc = slice_get d.labels label ≡ Some (Some pc)
 abbrev pub expression_in : Expression → Draft → Span
 expression_in e d = ExpressionAt (Has d) (Holds d) (Labelled d) e
 
+-- the code that is stuck where the source means nothing
+abbrev pub stuck_in : Bool → Draft → Span
+stuck_in b d = StuckIf (Has d) (Holds d) (Labelled d) b
+
+-- the code of an expression in the place of a value
+abbrev pub value_in : Expression → Draft → Span
+value_in e d = ValueAt (Has d) (Holds d) (Labelled d) e
+
 -- the code of arguments, from left to right
 abbrev pub arguments_in : List Expression → Draft → Span
 arguments_in [] d = Nothing
-arguments_in (e ∷ es) d = expression_in e d ▷ arguments_in es d
+arguments_in (e ∷ es) d = value_in e d ▷ arguments_in es d
 
 -- the code that lets an expression's value go
 abbrev pub let_go_in : Expression → Draft → Span
@@ -118,6 +126,11 @@ pub record Compiles (f : Function) (old new : Code) : Type 0 where
 abbrev pub entries : Option ℕ → Option ℕ → Option ℕ → Entries
 entries start tick stop = record { start = start; init = None; tick = tick; trade = None; tester = None; deinit = None; stop = stop }
 
+-- the number of a function that is there
+abbrev pub there : ℕ → Option ℕ → Option ℕ
+there functions None = None
+there functions (Some k) = if nat_lt k functions then Some k else None
+
 -- code with no functions
 abbrev pub no_code : Code
 no_code = record { texts = []; constants = []; functions = []; entries = entries None None None }
@@ -133,4 +146,4 @@ all_functions checked = checked.functions ++ nothing ∷ nothing ∷ []
 -- the code of a whole program: a code for each function, and the entries that name them
 pub record Compiled (checked : Checked) (code : Code) : Type 0 where
   pub each : EachFor code (all_functions checked) code.functions
-  pub entries : code.entries ≡ entries (Some (length checked.functions)) checked.tick (Some (length checked.functions + 1))
+  pub entries : code.entries ≡ entries (Some (length checked.functions)) (there (length checked.functions) checked.tick) (Some (length checked.functions + 1))

@@ -1,11 +1,13 @@
 -- The code that stands for a part of a program.
-use Rattle.std.specs.Prelude.{◌≡◌, ℕ, ◌+◌, Bool, true, false, List, [], ◌∷◌, length, Some, slice_get}
+use Rattle.std.specs.Prelude.{◌≡◌, ℕ, ◌+◌, ◌==◌, Bool, true, false, not, List, [], ◌∷◌, length, Some, slice_get}
 use Rattle.mql_mean.specs.declared.value.Value.{Value}
 use Rattle.mql_mean.specs.declared.value.Value.TheVariants.{Num, Str}
 use Rattle.mql_mean.specs.declared.tree.Expression.{Expression, Text, Number, Local, Apply', Native', Row_of-Expression, end_of-Expression, more_of-Expression}
 use Rattle.mql_mean.specs.declared.tree.Statement.{Statement, Empty, Block', Evaluate, Assign, If', While', Row_of-Statement, end_of-Statement, more_of-Statement}
 use Rattle.mql_mean.specs.declared.tree.Function.{Function}
 use Rattle.mql_mean.specs.Types.{is_void, count}
+use Rattle.mql_mean.specs.Apply.{arity}
+use Rattle.mql_mean.specs.Means.{void_value}
 use Rattle.stack_vm.specs.declared.code.Code.{Code}
 use Rattle.stack_vm.specs.declared.code.FunctionCode.{FunctionCode}
 use Rattle.stack_vm.specs.declared.code.Instruction.{Instruction}
@@ -51,18 +53,28 @@ module _ (Has : ℕ → Instruction → Type 0) (Holds : ℕ → Value → Type 
     pub holds : Holds number v
     pub one : One (op.Plain (ef.Const number)) pc pc'
 
-  -- arguments from left to right, and then the call
+  -- where the source means nothing, the machine is stuck: a place is read where a value stands on top
+  abbrev pub StuckIf : Bool → Span
+  StuckIf true = Constant void_value ▷ One (op.Plain ef.Read)
+  StuckIf false = Nothing
+
+  -- arguments from left to right, and then the operator or the call; a void call in the place of a value has none, and an
+  -- operator takes as many operands as it has
   abbrev mutual
     pub ExpressionAt : Expression → Span
     ExpressionAt (Text s) = Constant (Str s)
     ExpressionAt (Number k x) = Constant (Num k x)
     ExpressionAt (Local local) = One (op.Plain (ef.Local local)) ▷ One (op.Plain ef.Read)
-    ExpressionAt (Apply' o k row args) = RowAt args ▷ One (op.Plain (ef.Apply o k))
+    ExpressionAt (Apply' o k row args) = RowAt args ▷ StuckIf (not (count args == arity o)) ▷ One (op.Plain (ef.Apply o k))
     ExpressionAt (Native' native row args) = RowAt args ▷ One (op.Native native (count args))
 
     pub RowAt : {m : _} → Row_of-Expression m → Span
     RowAt end_of-Expression = Nothing
-    RowAt (more_of-Expression e es) = ExpressionAt e ▷ RowAt es
+    RowAt (more_of-Expression e es) = (ExpressionAt e ▷ StuckIf (is_void e)) ▷ RowAt es
+
+  -- an expression in the place of a value
+  abbrev pub ValueAt : Expression → Span
+  ValueAt e = ExpressionAt e ▷ StuckIf (is_void e)
 
   -- a value is let go, if there is one
   abbrev pub LetGo : Bool → Span
@@ -75,9 +87,9 @@ module _ (Has : ℕ → Instruction → Type 0) (Holds : ℕ → Value → Type 
     StatementAt (Empty line) = One (op.Plain (ef.Line line))
     StatementAt (Block' line row body) = One (op.Plain (ef.Line line)) ▷ StatementsAt body
     StatementAt (Evaluate line e) = One (op.Plain (ef.Line line)) ▷ ExpressionAt e ▷ LetGo (is_void e)
-    StatementAt (Assign line local e) = One (op.Plain (ef.Line line)) ▷ ExpressionAt e ▷ One (op.Plain (ef.Local local)) ▷ One (op.Plain ef.Write)
-    StatementAt (If' line e row body) = WithLabel λ out. (One (op.Plain (ef.Line line)) ▷ ExpressionAt e ▷ One (op.Unless out) ▷ StatementsAt body) ▷ Here out
-    StatementAt (While' line e row body) = WithLabel λ out. (One (op.Plain (ef.Line line)) ▷ WithLabel λ top. Here top ▷ One op.Step ▷ ExpressionAt e ▷ One (op.Unless out) ▷ StatementsAt body ▷ One (op.Plain (ef.Line line)) ▷ One (op.Jump top)) ▷ Here out
+    StatementAt (Assign line local e) = One (op.Plain (ef.Line line)) ▷ ValueAt e ▷ One (op.Plain (ef.Local local)) ▷ One (op.Plain ef.Write)
+    StatementAt (If' line e row body) = WithLabel λ out. (One (op.Plain (ef.Line line)) ▷ ValueAt e ▷ One (op.Unless out) ▷ StatementsAt body) ▷ Here out
+    StatementAt (While' line e row body) = WithLabel λ out. (One (op.Plain (ef.Line line)) ▷ WithLabel λ top. Here top ▷ One op.Step ▷ ValueAt e ▷ One (op.Unless out) ▷ StatementsAt body ▷ One (op.Plain (ef.Line line)) ▷ One (op.Jump top)) ▷ Here out
 
     pub StatementsAt : {m : _} → Row_of-Statement m → Span
     StatementsAt end_of-Statement = Nothing

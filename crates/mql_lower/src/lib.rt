@@ -4,4 +4,4 @@
 mod draft;
 mod lowering;
 
-pub use lowering::lower;
+pub use lowering::{code_of, lower};

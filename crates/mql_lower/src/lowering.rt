@@ -2,12 +2,12 @@
 ghost use Rattle.std.specs.Prelude.{◌≡◌, [], ◌∷◌, ◌++◌, Some, None, length, OnOk, IfOk};
 ghost use Rattle.mql_mean.specs.Types.{Types};
 ghost use Rattle.mql_mean.specs.Means.{nothing};
-ghost use Rattle.mql_lower.specs.Draft.{Compiled, Compiles, Emits, arguments_in, body_in, expression_in, let_go_in, no_code, statement_in, with_entries};
+ghost use Rattle.mql_lower.specs.Draft.{Compiled, Compiles, Emits, arguments_in, body_in, expression_in, let_go_in, no_code, statement_in, stuck_in, there, value_in, with_entries};
 ghost use Rattle.mql_lower.specs.Stands.{EachFor};
 ghost use Rattle.mql_lower.specs.Follows.{Follows};
 
 use crate::draft::{Draft, add_constant, add_text, new_label, placed, put, set_label, short};
-use fx8::{ItemList, OutOfMemory};
+use fx8::{IntKind, ItemList, OutOfMemory};
 use mql_mean::{Checked, Expression, Function, Statement};
 use stack_vm::{Code, Constant, Effect, Entries, FunctionCode, Instruction, Program, Valid};
 use std::alloc::Global;
@@ -34,6 +34,7 @@ fn expression(alloc: Global, draft: &mut Draft, e: &Expression) -> Result<(), Ou
         }
         Expression::Apply(operator, kind, args) => {
             arguments(alloc, draft, args.as_slice())?;
+            stuck_if(draft, args.len() != operator.arity())?;
             put(draft, Instruction::Plain(Effect::Apply(*operator, *kind)))
         }
         Expression::Native(native, args) => {
@@ -50,9 +51,33 @@ fn arguments(alloc: Global, draft: &mut Draft, args: &[Expression]) -> Result<()
     ensures { OnOk result (Emits (arguments_in args.now) draft.old draft.new) }
 {
     for e in args {
-        expression(alloc, draft, e)?;
+        value(alloc, draft, e)?;
     }
     Ok(())
+}
+
+/// Writes an expression that stands in the place of a value.
+#[cycle(expressions)]
+#[tactic(auto, using(crate::proofs::Emits::value_emits))]
+fn value(alloc: Global, draft: &mut Draft, e: &Expression) -> Result<(), OutOfMemory>
+    ensures { OnOk result (Emits (value_in e.now) draft.old draft.new) }
+{
+    expression(alloc, draft, e)?;
+    stuck_if(draft, e.is_void())
+}
+
+/// Writes code that is stuck, where the source means nothing. No code of a typed program has it.
+#[tactic(auto, using(crate::proofs::Emits::stuck_emits, crate::proofs::Emits::free_emits))]
+fn stuck_if(draft: &mut Draft, nothing: bool) -> Result<(), OutOfMemory>
+    ensures { OnOk result (Emits (stuck_in nothing) draft.old draft.new) }
+{
+    if nothing {
+        let constant = add_constant(draft, Constant::Number(IntKind::Int, 0))?;
+        put(draft, Instruction::Plain(Effect::Const(constant)))?;
+        put(draft, Instruction::Plain(Effect::Read))
+    } else {
+        Ok(())
+    }
 }
 
 /// Writes a statement.
@@ -74,14 +99,14 @@ fn statement(alloc: Global, draft: &mut Draft, s: &Statement) -> Result<(), OutO
         }
         Statement::Assign(line, local, e) => {
             put(draft, Instruction::Plain(Effect::Line(*line)))?;
-            expression(alloc, draft, e)?;
+            value(alloc, draft, e)?;
             put(draft, Instruction::Plain(Effect::Local(*local)))?;
             put(draft, Instruction::Plain(Effect::Write))
         }
         Statement::If(line, e, body) => {
             let out = new_label(draft)?;
             put(draft, Instruction::Plain(Effect::Line(*line)))?;
-            expression(alloc, draft, e)?;
+            value(alloc, draft, e)?;
             put(draft, Instruction::Unless(out))?;
             block(alloc, draft, body.as_slice())?;
             set_label(draft, out)
@@ -92,7 +117,7 @@ fn statement(alloc: Global, draft: &mut Draft, s: &Statement) -> Result<(), OutO
             let top = new_label(draft)?;
             set_label(draft, top)?;
             put(draft, Instruction::Step)?;
-            expression(alloc, draft, e)?;
+            value(alloc, draft, e)?;
             put(draft, Instruction::Unless(out))?;
             block(alloc, draft, body.as_slice())?;
             put(draft, Instruction::Plain(Effect::Line(*line)))?;
@@ -103,7 +128,7 @@ fn statement(alloc: Global, draft: &mut Draft, s: &Statement) -> Result<(), OutO
 }
 
 /// Lets the value of an expression go, if it gives one.
-#[tactic(auto, using(crate::proofs::Emits::void_emits, crate::proofs::Emits::value_emits))]
+#[tactic(auto, using(crate::proofs::Emits::void_emits, crate::proofs::Emits::dropped_emits))]
 fn let_go(draft: &mut Draft, e: &Expression) -> Result<(), OutOfMemory>
     ensures { OnOk result (Emits (let_go_in e.now) draft.old draft.new) }
 {
@@ -206,10 +231,29 @@ fn whole(alloc: Global, checked: &Checked) -> Result<Code, OutOfMemory>
     let code = function(alloc, code, &nothing)?;
     let stop = short(code.functions.len())?;
     let code = function(alloc, code, &nothing)?;
-    Ok(with_entries(code, start, checked.tick, stop))
+    Ok(with_entries(code, start, there(start, checked.tick), stop))
 }
 
-/// The code of a checked program: it has an outcome exactly where the program means it.
+/// The number of a function that is there.
+fn there(functions: u32, number: Option<u32>) -> Option<u32>
+    ensures { result ≡ there functions number }
+{
+    match number {
+        Some(k) if k < functions => Some(k),
+        _ => None,
+    }
+}
+
+/// The code of a checked program, whatever its types: it has an outcome exactly where the program means it, and is stuck
+/// where the program means nothing.
+pub fn code_of(alloc: Global, checked: &Checked) -> Result<Code, OutOfMemory>
+    ensures { IfOk result (λ code. Follows checked.now code) }
+{
+    let code = whole(alloc, checked)?;
+    Ok(code)
+}
+
+/// The code of a typed program: it is valid, and has an outcome exactly where the program means it.
 pub fn lower(alloc: Global, checked: &Checked) -> Result<Program, OutOfMemory>
     requires { Types checked.now }
     ensures { IfOk result (λ program. Follows checked.now program) }

@@ -13,23 +13,33 @@ use Rattle.mql_mean.specs.World.{Ended, Returned, Exhausted, Stuck, World, Res, 
 use Rattle.mql_mean.specs.Store.{enter, leave, set_line, read, write}
 use Rattle.mql_mean.specs.Apply.{apply, truth}
 use Rattle.mql_mean.specs.Ask.{ask}
+use Rattle.mql_mean.specs.Types.{is_void}
 
 -- the value of a void function
 abbrev pub void_value : Value
 void_value = Num Int (pos 0)
 
--- the value of an expression; arguments go from left to right
+-- a value in its place: where a void call stands there, none is
+abbrev pub as_value : Bool → Value → Act Value
+as_value true v n w = End Stuck n w
+as_value false v n w = Go v n w
+
+-- what an expression does and gives, a void call the value 0; arguments go from left to right
 abbrev mutual
-  pub value_of : Expression → Act Value
-  value_of (Text s) n w = Go (Str s) n w
-  value_of (Number k x) n w = Go (Num k x) n w
-  value_of (Local local) n w = lift (read local w.store) n w
-  value_of (Apply' o k row args) n w = bind (values_of args n w) (λ vs n w. lift (apply o k vs w.store) n w)
-  value_of (Native' native row args) n w = bind (values_of args n w) (λ vs n w. ask native vs n w)
+  pub evaluates : Expression → Act Value
+  evaluates (Text s) n w = Go (Str s) n w
+  evaluates (Number k x) n w = Go (Num k x) n w
+  evaluates (Local local) n w = lift (read local w.store) n w
+  evaluates (Apply' o k row args) n w = bind (values_of args n w) (λ vs n w. lift (apply o k vs w.store) n w)
+  evaluates (Native' native row args) n w = bind (values_of args n w) (λ vs n w. ask native vs n w)
 
   pub values_of : {m : _} → Row_of-Expression m → Act (List Value)
   values_of end_of-Expression n w = Go [] n w
-  values_of (more_of-Expression e es) n w = bind (value_of e n w) (λ v n w. bind (values_of es n w) (λ vs n w. Go (v ∷ vs) n w))
+  values_of (more_of-Expression e es) n w = bind (bind (evaluates e n w) (as_value (is_void e))) (λ v n w. bind (values_of es n w) (λ vs n w. Go (v ∷ vs) n w))
+
+-- the value of an expression that stands in the place of a value
+abbrev pub value_of : Expression → Act Value
+value_of e n w = bind (evaluates e n w) (as_value (is_void e))
 
 -- one of two parts
 abbrev pub choose : {A : Type 0} → Bool → Act A → Act A → Act A
@@ -49,7 +59,7 @@ module _ (fuel : ℕ) where
     pub does : Statement → Act (Unit {0})
     does (Empty line) n w = lift (set_line line w.store) n w
     does (Block' line row body) n w = bind (lift (set_line line w.store) n w) (λ _ n w. does_row body n w)
-    does (Evaluate line e) n w = bind (lift (set_line line w.store) n w) (λ _ n w. bind (value_of e n w) (λ v n w. Go tt n w))
+    does (Evaluate line e) n w = bind (lift (set_line line w.store) n w) (λ _ n w. bind (evaluates e n w) (λ v n w. Go tt n w))
     does (Assign line local e) n w = bind (lift (set_line line w.store) n w) (λ _ n w. bind (value_of e n w) (λ v n w. lift (write local v w.store) n w))
     does (If' line e row body) n w = bind (lift (set_line line w.store) n w) (λ _ n w. bind (value_of e n w) (λ v n w. bind (lift (truth v w.store) n w) (λ b. choose b (does_row body) (Go tt))))
     does (While' line e row body) n w = bind (lift (set_line line w.store) n w) (λ _. turns fuel line (value_of e) (does_row body))

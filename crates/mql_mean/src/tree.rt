@@ -1,6 +1,7 @@
 //! The checked tree of a program.
 ghost use Rattle.std.specs.Prelude.{◌≡◌};
 ghost use Rattle.mql_mean.specs.Natives.{native_number, native_void, takes};
+ghost use Rattle.mql_mean.specs.Apply.{arity};
 ghost use Rattle.mql_mean.specs.Types.{is_void};
 
 use crate::value::{ValueList, all_print};
@@ -66,6 +67,18 @@ pub enum UnaryOperator {
 pub enum Operator {
     Unary(UnaryOperator),
     Binary(IntOperator),
+}
+
+impl Operator {
+    /// How many operands it has.
+    pub fn arity(self) -> u64
+        ensures { result ≡ arity self }
+    {
+        match self {
+            Operator::Unary(_) => 1,
+            Operator::Binary(_) => 2,
+        }
+    }
 }
 
 /// An expression.

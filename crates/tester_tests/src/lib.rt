@@ -4,6 +4,8 @@
 #[cfg(test)]
 mod lists;
 #[cfg(test)]
+mod lowering;
+#[cfg(test)]
 mod outside;
 #[cfg(test)]
 mod parts;

@@ -6,4 +6,4 @@ pub of-requires : goal.of-requires
 of-requires c = valid c.args.checked.now c.in_ok-code.code c.requires c.in_ok-code.ensures
 
 pub returns : goal.returns
-returns c = rw (c.of-2.ensures, c.of.ensures) (follows c.args.checked.now c.in_ok-code.code c.requires c.in_ok-code.ensures)
+returns c = rw (c.of-2.ensures, c.of.ensures) (follows c.args.checked.now c.in_ok-code.code c.in_ok-code.ensures)
