@@ -9,31 +9,14 @@ use Rattle.mql_mean.specs.declared.tree.Checked.{Checked}
 use Rattle.market_data.specs.declared.bar.Bar.{Bar}
 use Rattle.mql_source.specs.Source.{checked_of}
 use Rattle.market_data.specs.BarsFile.{bars_of}
-use Rattle.tester_cli.specs.declared.status.Status.{Status}
-use Rattle.tester_cli.specs.declared.status.Status.TheVariants.{Done, Usage, Source, Settings, Prices, CodeFile, Grid, Absent, ReadFault, WriteFault, TooLarge, OutOfMemory}
-use Rattle.tester_cli.specs.Answer.{Plan, Reads, Ends, AfterReading, Gives, refusal}
-use Rattle.tester_cli.specs.Clauses.{ReadCounts, NoneFell, IsReading, ReadingRefused, Refused, Never, UsageRefused, HasDone, IsDoneOrMemory}
-use Rattle.tester_cli.proofs.PlanLemmas.{refused_here, refused_later}
-use Rattle.tester_cli.specs.Commands.{refuses, with_source, with_bars, reports, quick_bars, quick_plan, quick_names, chosen, plan_of, source_limit, price_limit}
-
--- over any contents the plan has one status
-abbrev OneStatus : Plan → Type 0
-OneStatus plan = (held : Contents) (s s' : Status) (text text' : List ℕ) (after after' : Contents) → Gives plan held s text after → Gives plan held s' text' after' → s ≡ s'
-
-refuses_one : (status : Status) → OneStatus (refuses status)
-refuses_one status held s s' text text' after after' g g' = g.0 ∙ sym g'.0
-
-module _ (name : List ℕ) (limit : ℕ) (next : List ℕ → Plan) (each : (bytes : List ℕ) → OneStatus (next bytes)) where
-  after_one : (o : Option (List ℕ)) (held : Contents) (s s' : Status) (text text' : List ℕ) (after after' : Contents) → AfterReading name limit (λ bytes. Gives (next bytes)) o held s text after → AfterReading name limit (λ bytes. Gives (next bytes)) o held s' text' after' → s ≡ s'
-  after_one None held s s' text text' after after' g g' = g.0 ∙ sym g'.0
-  after_one (Some bytes) held s s' text text' after after' g g' = of_test (nat_lt limit (length bytes)) g g'
-    where
-      of_test : (b : Bool) → MatchBool b (refusal (TooLarge name) held s text after) (Gives (next bytes) held s text after) → MatchBool b (refusal (TooLarge name) held s' text' after') (Gives (next bytes) held s' text' after') → s ≡ s'
-      of_test true g g' = g.0 ∙ sym g'.0
-      of_test false g g' = each bytes held s s' text text' after after' g g'
-
-  reads_one : OneStatus (Reads name limit next)
-  reads_one held s s' text text' after after' g g' = after_one (held name) held s s' text text' after after' g g'
+use Rattle.tester_answer.specs.declared.status.Status.{Status}
+use Rattle.tester_answer.specs.declared.status.Status.TheVariants.{Done, Usage, Source, Settings, Prices, CodeFile, Grid, Absent, ReadFault, WriteFault, TooLarge, OutOfMemory}
+use Rattle.tester_answer.specs.Answer.{Plan, Reads, Ends, AfterReading, Gives, refusal}
+use Rattle.tester_answer.specs.Clauses.{ReadCounts, NoneFell, IsReading, ReadingRefused, Refused, Never, UsageRefused, HasDone, IsDoneOrMemory}
+use Rattle.tester_answer.proofs.PlanLemmas.{refused_here, refused_on, leads_reading}
+use Rattle.tester_answer.proofs.OneStatus.{OneStatus, refuses_one, reads_one}
+use Rattle.tester_answer.specs.Answer.{refuses}
+use Rattle.tester_cli.specs.Commands.{with_source, with_bars, reports, quick_bars, quick_plan, quick_names, chosen, plan_of, source_limit, price_limit}
 
 reports_one : (checked : Checked) (bars : List Bar) → OneStatus (Ends (reports checked bars))
 reports_one checked bars held s s' text text' after after' g g' = g.0 ∙ sym g'.0
@@ -63,25 +46,6 @@ plan_one (command ∷ names) = of_test (bytes_eq command (codes "quick"))
     of_test true = names_one names
     of_test false = refuses_one (Usage 2)
 
-module _ (plan : Plan) (one : OneStatus plan) (held : Contents) (has : HasDone plan held) where
-  -- the plan has no refusal
-  no_refusal : (status : Status) → (status ≡ Done → ⊥) → Gives plan held status [] held → ⊥
-  no_refusal status apart g = apart (one held status Done [] has.0 held has.1 g has.2)
-
-  pub done_or_memory : (told : Option Contents) (before now : ReadCounts) (status : Status) → told ≡ Some held → (Rose before.read_faults now.read_faults → ⊥) → Refused (UsageRefused plan) plan told before now status → IsDoneOrMemory status
-  done_or_memory told before now Done is quiet r = tt
-  done_or_memory told before now (Usage rule) is quiet r = absurd (no_refusal (Usage rule) (λ e. cc) (r held))
-  done_or_memory told before now (Source fault) is quiet r = absurd (no_refusal (Source fault) (λ e. cc) (r held is))
-  done_or_memory told before now (Settings rule key) is quiet r = absurd (no_refusal (Settings rule key) (λ e. cc) (r held is))
-  done_or_memory told before now (Prices file row rule) is quiet r = absurd (no_refusal (Prices file row rule) (λ e. cc) (r held is))
-  done_or_memory told before now (CodeFile rule place) is quiet r = absurd (no_refusal (CodeFile rule place) (λ e. cc) (r held is))
-  done_or_memory told before now (Grid rule input) is quiet r = absurd (no_refusal (Grid rule input) (λ e. cc) (r held is))
-  done_or_memory told before now (Absent name) is quiet r = absurd (no_refusal (Absent name) (λ e. cc) (r.1 held is))
-  done_or_memory told before now (ReadFault name) is quiet r = absurd (quiet r.0)
-  done_or_memory told before now WriteFault is quiet r = absurd r
-  done_or_memory told before now (TooLarge name) is quiet r = absurd (no_refusal (TooLarge name) (λ e. cc) (r.1 held is))
-  done_or_memory told before now OutOfMemory is quiet r = tt
-
 -- the reading of the bars is refused
 pub bars_refused : (bars : List ℕ) (checked : Checked) (told : Option Contents) (before now : ReadCounts) (status : Status) (name : List ℕ) → name ≡ bars → ReadingRefused name price_limit told before now status → Refused Never (quick_bars bars checked) told before now status
 bars_refused bars checked told before now status name e r =
@@ -97,7 +61,7 @@ source_refused expert bars told before now status name e r =
 -- what comes after the source is refused
 pub later_refused : (expert bars : List ℕ) (checked : Checked) (told told_mid : Option Contents) (before mid now : ReadCounts) (status : Status) (name source : List ℕ) → name ≡ expert → IsReading name source_limit told source → NoneFell before mid → told_mid ≡ told → checked_of source ≡ Some checked → Refused Never (quick_bars bars checked) told_mid mid now status → Refused Never (quick_plan expert bars) told before now status
 later_refused expert bars checked told told_mid before mid now status name source e reading fell same found r =
-    refused_later Never expert source_limit (λ source. with_source expert (checked_of source) (quick_bars bars)) told before mid now source status
-    (subst (λ n. IsReading n source_limit told source) e reading) fell
+    refused_on Never (quick_plan expert bars) (with_source expert (checked_of source) (quick_bars bars)) told before mid now status
+    (leads_reading expert source_limit (λ source. with_source expert (checked_of source) (quick_bars bars)) told source (subst (λ n. IsReading n source_limit told source) e reading)) fell
     (subst (λ o. Refused Never (with_source expert o (quick_bars bars)) told mid now status) (sym found)
     (subst (λ t. Refused Never (quick_bars bars checked) t mid now status) same r))

@@ -7,9 +7,9 @@ use Rattle.market_data.specs.declared.bar.Bar.{Bar}
 use Rattle.market_data.specs.BarsFile.{bars_of}
 use Rattle.market_data.specs.Quotes.{opening_quotes}
 use Rattle.tester_cli.specs.declared.result.PassResult.{PassResult}
-use Rattle.tester_cli.specs.declared.status.Status.{Status}
-use Rattle.tester_cli.specs.declared.status.Status.TheVariants.{Done, Usage, Source, Prices}
-use Rattle.tester_cli.specs.Answer.{Ending, Plan, Reads, Ends, refusal}
+use Rattle.tester_answer.specs.declared.status.Status.{Status}
+use Rattle.tester_answer.specs.declared.status.Status.TheVariants.{Done, Usage, Source, Prices}
+use Rattle.tester_answer.specs.Answer.{Ending, Plan, Reads, Ends, refuses}
 use Rattle.tester_cli.specs.Compiling.{unbuilt}
 use Rattle.tester_cli.specs.Pass.{Passes}
 use Rattle.tester_cli.specs.Report.{IsReport}
@@ -20,10 +20,6 @@ source_limit = 4194304
 
 abbrev pub price_limit : ℕ
 price_limit = 536870912
-
--- the end that refuses
-abbrev pub refuses : Status → Plan
-refuses status = Ends (refusal status)
 
 abbrev pub with_source : List ℕ → Option Checked → (Checked → Plan) → Plan
 with_source name None next = refuses (Source (unbuilt name))

@@ -7,7 +7,7 @@ use Rattle.mql_lower.specs.Follows.{Follows}
 use Rattle.tester_cli.specs.declared.compiler.Source.{Source}
 use Rattle.tester_cli.specs.declared.compiler.CompileFault.{CompileFault}
 use Rattle.tester_cli.specs.declared.compiler.CompileFault.TheVariants as fault
-use Rattle.tester_cli.specs.declared.status.SourceFault.{SourceFault}
+use Rattle.tester_answer.specs.declared.status.SourceFault.{SourceFault}
 
 -- the entry is the one source
 abbrev pub IsAlone : List Source → List ℕ → Type 0

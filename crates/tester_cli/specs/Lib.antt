@@ -1,6 +1,4 @@
-pub mod Texts
-pub mod Answer
-pub mod Clauses
+pub mod Refusals
 pub mod Commands
 pub mod Compiling
 pub mod Journal

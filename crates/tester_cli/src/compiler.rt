@@ -4,12 +4,12 @@ ghost use Rattle.mql_source.specs.Bytes.{all_ascii};
 ghost use Rattle.tester_cli.specs.Compiling.{IsAlone, entry_text, IsProgramOf, UnbuiltFault, CompileRefused};
 ghost use Rattle.mql_source.specs.Source.{checked_of};
 
-use crate::status::SourceFault;
 use fx8::{ItemList, OutOfMemory, Text, Text8};
 use mql_lower::lower;
 use mql_source::read_source;
 use stack_vm::Program;
 use std::alloc::Global;
+use tester_answer::SourceFault;
 
 /// A source text with its name.
 #[derive(Debug, Drop)]

@@ -5,20 +5,21 @@ ghost use Rattle.mql_lower.specs.Follows.{Follows};
 ghost use Rattle.mql_source.specs.Source.{checked_of};
 ghost use Rattle.market_data.specs.BarsFile.{bars_of, IsBar};
 ghost use Rattle.tester_io.specs.Outside.{WhereTold};
-ghost use Rattle.tester_cli.specs.Answer.{Gives};
-ghost use Rattle.tester_cli.specs.Clauses.{counts, NoneFell, Refused, Never, SourceStatus, BarsStatus};
+ghost use Rattle.tester_answer.specs.Answer.{Gives};
+ghost use Rattle.tester_answer.specs.Clauses.{counts, NoneFell, Refused, Never};
+ghost use Rattle.tester_cli.specs.Refusals.{SourceStatus, BarsStatus};
 ghost use Rattle.tester_cli.specs.Commands.{quick_plan, quick_bars, Reports};
 ghost use Rattle.tester_cli.specs.Compiling.{IsProgramOf};
 
 use crate::compiler::{CompileFault, Source, Sources, compile};
-use crate::outside::read;
 use crate::pass::run_pass;
 use crate::report::report_text;
-use crate::status::Status;
 use fx8::{OutOfMemory, Text, Text8};
 use market_data::{BarList, RowFault, read_bars};
 use stack_vm::Program;
 use std::alloc::Global;
+use tester_answer::Status;
+use tester_answer::outside::read;
 use tester_io::Files;
 
 /// The most bytes of a source.

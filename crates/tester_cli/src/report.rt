@@ -7,11 +7,11 @@ ghost use Rattle.tester_cli.specs.Times.{IsReportTime};
 ghost use Rattle.tester_cli.specs.Pieces.{Appends};
 
 use crate::result::{PassEnd, PassResult, Printed};
-use crate::text::push_number;
 use crate::time::push_time;
 use fx8::{OutOfMemory, Text8};
 use mql_mean::ErrorKind;
 use std::alloc::Global;
+use tester_answer::text::push_number;
 
 fn error_name(kind: ErrorKind) -> &'static str
     ensures { result.now ≡ error_name kind }

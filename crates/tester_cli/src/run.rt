@@ -2,15 +2,15 @@
 ghost use Rattle.std.specs.Prelude.{◌≡◌, ◌⊎◌, ℕ, [], ◌∷◌, ◌++◌, map, IfOk, IfErr};
 ghost use Rattle.std.specs.String.{string_bytes};
 ghost use Rattle.tester_io.specs.Outside.{WhereTold, Rose};
-ghost use Rattle.tester_cli.specs.Answer.{Gives};
-ghost use Rattle.tester_cli.specs.Clauses.{counts, Refuses, Refused, UsageRefused, AtJudgement, AtUnread, WroteWhole, WrotePart, WroteNothing, IsDoneOrMemory, HasDone};
+ghost use Rattle.tester_answer.specs.Answer.{Gives};
+ghost use Rattle.tester_answer.specs.Clauses.{counts, Refuses, Refused, UsageRefused, AtJudgement, AtUnread, WroteWhole, WrotePart, WroteNothing, IsDoneOrMemory, HasDone};
 ghost use Rattle.tester_cli.specs.Commands.{plan_of};
 
-use crate::outside::write_whole;
 use crate::quick::quick;
-use crate::status::Status;
 use fx8::Text8;
 use std::alloc::Global;
+use tester_answer::Status;
+use tester_answer::outside::write_whole;
 use tester_io::{Files, Sink, WriteError};
 
 // What a command writes, or why it writes nothing.

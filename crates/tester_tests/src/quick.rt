@@ -3,7 +3,7 @@ use crate::outside::{BARS, EXPERT, REPORT, files, run, sink, words};
 use fx8::Text8;
 use std::alloc::Global;
 use std::test::Fail;
-use tester_cli::{Status, run_single};
+use tester_answer::{Status, run_single};
 use tester_io::{CalmFiles, CalmSink};
 
 /// The names and bytes of a run that is done.

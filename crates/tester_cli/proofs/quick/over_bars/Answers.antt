@@ -1,5 +1,5 @@
 use Rattle.std.proofs.lemmas.Result.{err_from_is_err_and}
-use Rattle.tester_cli.specs.Clauses.{counts}
+use Rattle.tester_answer.specs.Clauses.{counts}
 use Rattle.tester_cli.proofs.RunLemmas.{bars_refused}
 use Rattle.tester_cli.proofs.quick.over_bars.Goals as goal
 

@@ -1,5 +1,5 @@
 use Rattle.std.proofs.lemmas.Result.{err_from_is_err_and, IfErr-weaker}
-use Rattle.tester_cli.specs.Clauses.{counts}
+use Rattle.tester_answer.specs.Clauses.{counts}
 use Rattle.tester_cli.proofs.RunLemmas.{source_refused, later_refused}
 use Rattle.tester_cli.proofs.quick.quick.Goals as goal
 

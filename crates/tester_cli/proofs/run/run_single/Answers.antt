@@ -1,8 +1,9 @@
 use Rattle.std.proofs.Common.{◌++◌, take, Some, Err, inr, map, ap, ◌∙◌}
 use Rattle.std.specs.String.{string_bytes}
 use Rattle.tester_cli.specs.Commands.{plan_of}
-use Rattle.tester_cli.specs.Clauses.{counts}
-use Rattle.tester_cli.proofs.RunLemmas.{plan_one, done_or_memory}
+use Rattle.tester_answer.specs.Clauses.{counts}
+use Rattle.tester_cli.proofs.RunLemmas.{plan_one}
+use Rattle.tester_answer.proofs.OneStatus.{done_or_memory}
 use Rattle.tester_cli.proofs.run.run_single.Goals as goal
 
 pub returns-in-Err-clause-complete : goal.returns-in-Err-clause-complete

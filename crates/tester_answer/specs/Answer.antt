@@ -2,8 +2,8 @@
 use Rattle.std.specs.Prelude.{◌≡◌, ◌⊎◌, ℕ, nat_lt, List, [], length, Option, Some, None}
 use Rattle.std.specs.Bool.{MatchBool}
 use Rattle.tester_io.specs.Outside.{Contents}
-use Rattle.tester_cli.specs.declared.status.Status.{Status}
-use Rattle.tester_cli.specs.declared.status.Status.TheVariants.{Absent, TooLarge}
+use Rattle.tester_answer.specs.declared.status.Status.{Status}
+use Rattle.tester_answer.specs.declared.status.Status.TheVariants.{Absent, TooLarge}
 
 -- how a run may end that finds these contents: its status, what the sink gains, and the contents after it
 abbrev pub Ending : Type 1
@@ -14,10 +14,15 @@ abbrev pub refusal : Status → Ending
 refusal status held s text after = (s ≡ status) × (text ≡ []) × (after ≡ held)
 
 -- what a command does: it asks for a file by its name, with the most bytes that it takes, and goes on with what the
--- file holds; or it ends
+-- file holds; or it goes on with that of which a definition is true; or it ends
 pub data Plan : Type 1 where
   Reads : (name : List ℕ) (limit : ℕ) (next : List ℕ → Plan) → Plan
+  Finds : (A : Type 0) (is : A → Type 0) (next : A → Plan) → Plan
   Ends : (ending : Contents → Status → List ℕ → Contents → Type 0) → Plan
+
+-- the end that refuses
+abbrev pub refuses : Status → Plan
+refuses status = Ends (refusal status)
 
 -- what follows a reading: a name that is not held and a file over the limit are refused
 abbrev pub AfterReading : List ℕ → ℕ → (List ℕ → Ending) → Option (List ℕ) → Ending
@@ -28,6 +33,7 @@ AfterReading name limit next (Some bytes) held s text after =
 -- the ends that a plan has over these contents
 abbrev pub Gives : Plan → Ending
 Gives (Reads name limit next) held s text after = AfterReading name limit (λ bytes. Gives (next bytes)) (held name) held s text after
+Gives (Finds A is next) held s text after = (a : A) × is a × Gives (next a) held s text after
 Gives (Ends ending) held s text after = ending held s text after
 
 -- the plan comes to the reading of that name, with no refusal before it
@@ -38,4 +44,5 @@ ReachesAfter limit next (Some bytes) = MatchBool (nat_lt limit (length bytes)) �
 abbrev pub Reaches : Plan → List ℕ → Contents → Type 0
 Reaches (Reads name limit next) wanted held =
     (name ≡ wanted) ⊎ ReachesAfter limit (λ bytes. Reaches (next bytes) wanted held) (held name)
+Reaches (Finds A is next) wanted held = (a : A) × is a × Reaches (next a) wanted held
 Reaches (Ends ending) wanted held = ⊥

@@ -1,9 +1,9 @@
 -- The texts that the program writes. Own.
 use Rattle.std.specs.Prelude.{ℕ, List, [], ◌∷◌, ◌++◌, codes}
 use Rattle.std.specs.Fmt.{decimal}
-use Rattle.tester_cli.specs.declared.status.SourceFault.{SourceFault}
-use Rattle.tester_cli.specs.declared.status.Status.{Status}
-use Rattle.tester_cli.specs.declared.status.Status.TheVariants.{Done, Usage, Source, Settings, Prices, CodeFile, Grid, Absent, ReadFault, WriteFault, TooLarge, OutOfMemory}
+use Rattle.tester_answer.specs.declared.status.SourceFault.{SourceFault}
+use Rattle.tester_answer.specs.declared.status.Status.{Status}
+use Rattle.tester_answer.specs.declared.status.Status.TheVariants.{Done, Usage, Source, Settings, Prices, CodeFile, Grid, Absent, ReadFault, WriteFault, TooLarge, OutOfMemory}
 
 -- the number of a status, with which the program exits
 abbrev pub status_number : Status → ℕ

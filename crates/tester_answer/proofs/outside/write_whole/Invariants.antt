@@ -1,6 +1,6 @@
 use Rattle.std.proofs.Common.{◌≡◌, ◌≤◌, ◌-◌, ◌++◌, length, take, Some}
 use Rattle.tester_io.specs.Outside.{WhereTold}
-use Rattle.tester_cli.proofs.outside.write_whole.Given as goal
+use Rattle.tester_answer.proofs.outside.write_whole.Given as goal
 
 abbrev pub invariant-loop-place : goal.invariant-loop-place
 invariant-loop-place g l = record {

@@ -1,7 +1,7 @@
 //! How a run of a command ends, and the line that tells it.
 ghost use Rattle.std.specs.Prelude.{◌≡◌, [], ◌++◌, length, IfOk, OnOk, OnErr};
 ghost use Rattle.std.specs.Fmt.{decimal};
-ghost use Rattle.tester_cli.specs.Texts.{status_number, fields_line, fault_line, source_fields, status_fields};
+ghost use Rattle.tester_answer.specs.Texts.{status_number, fields_line, fault_line, source_fields, status_fields};
 
 use crate::text::{push_field, push_number_field};
 use fx8::{OutOfMemory, Text8};
@@ -129,7 +129,7 @@ pub fn fault_text(alloc: Global, status: &Status) -> Result<Text8, OutOfMemory>
 
 impl From<OutOfMemory> for Status {
     ghost use Rattle.std.specs.Prelude.{◌≡◌};
-    ghost use Rattle.tester_cli.specs.declared.status.Status.TheVariants as status;
+    ghost use Rattle.tester_answer.specs.declared.status.Status.TheVariants as status;
 
     ghost from_gives = { λ _ given. given ≡ status.OutOfMemory };
 

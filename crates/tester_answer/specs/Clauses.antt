@@ -1,14 +1,11 @@
 -- What the statuses of a run say. Own.
 use Rattle.std.specs.Prelude.{◌≡◌, ◌≤◌, ◌<◌, length, IsSomeAnd, ℕ, List, [], ◌++◌, take, Option, Some, None}
 use Rattle.tester_io.specs.Outside.{Contents, WhereTold, Rose}
-use Rattle.tester_cli.specs.declared.status.Status.{Status}
-use Rattle.tester_cli.specs.declared.status.Status.TheVariants.{Done, Usage, Source, Settings, Prices, CodeFile, Grid, Absent, ReadFault, WriteFault, TooLarge, OutOfMemory}
+use Rattle.tester_answer.specs.declared.status.Status.{Status}
+use Rattle.tester_answer.specs.declared.status.Status.TheVariants.{Done, Usage, Source, Settings, Prices, CodeFile, Grid, Absent, ReadFault, WriteFault, TooLarge, OutOfMemory}
 use Rattle.tester_io.specs.declared.fault.FileFault.{FileFault}
 use Rattle.tester_io.specs.declared.fault.FileFault.TheVariants as Fault
-use Rattle.mql_source.specs.Source.{checked_of}
-use Rattle.market_data.specs.BarsFile.{bars_of}
-use Rattle.tester_cli.specs.Compiling.{unbuilt}
-use Rattle.tester_cli.specs.Answer.{Plan, Gives, Reaches}
+use Rattle.tester_answer.specs.Answer.{Plan, Gives, Reaches}
 
 -- the counts of the faults of reading
 pub record ReadCounts : Type 0 where
@@ -123,15 +120,3 @@ IsDoneOrMemory _ = ⊥
 -- the plan has Done over these contents
 abbrev pub HasDone : Plan → Contents → Type 0
 HasDone plan held = (text : List ℕ) × (after : Contents) × Gives plan held Done text after
-
--- the status that refuses a source, which is not of the form that is built so far
-abbrev pub SourceStatus : List ℕ → List ℕ → Status → Type 0
-SourceStatus name bytes (Source fault) = (checked_of bytes ≡ None) × (fault ≡ unbuilt name)
-SourceStatus name bytes OutOfMemory = Unit {0}
-SourceStatus name bytes _ = ⊥
-
--- the status that refuses bars, which are not of the form that is read so far
-abbrev pub BarsStatus : List ℕ → List ℕ → Status → Type 0
-BarsStatus name bytes (Prices file row rule) = (bars_of bytes ≡ None) × (file ≡ name) × (row ≡ 0) × (rule ≡ 10)
-BarsStatus name bytes OutOfMemory = Unit {0}
-BarsStatus name bytes _ = ⊥

@@ -1,8 +1,8 @@
 //! Reading and writing, with the status that each fault gives.
 ghost use Rattle.std.specs.Prelude.{◌≡◌, ◌++◌, ◌≤◌, length, take, drop, Some, ℕ, IfOk, IfErr, OnOk, OnErr, IsErrOf, MatchResult};
 ghost use Rattle.tester_io.specs.Outside.{WhereTold, Rose};
-ghost use Rattle.tester_cli.specs.Clauses.{counts, NoneFell, IsReading, ReadingRefused};
-ghost use Rattle.tester_cli.specs.Clauses.{FaultStatus};
+ghost use Rattle.tester_answer.specs.Clauses.{counts, NoneFell, IsReading, ReadingRefused};
+ghost use Rattle.tester_answer.specs.Clauses.{FaultStatus};
 
 use crate::status::Status;
 use fx8::Text8;

