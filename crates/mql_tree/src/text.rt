@@ -88,7 +88,8 @@ fn valid_len(bytes: &[u8]) -> usize
 #[tactic(auto, unfolding(crate::specs::Text::utf8_text))]
 fn utf8_text(alloc: Global, mark: u64, bytes: &[u8]) -> Result<Text, TextFault>
     requires { mark ≤ 3 }
-    ensures { Answers result (utf8_text mark bytes.now) }
+    ensures exact { Answers result (utf8_text mark bytes.now) }
+    ensures few { IfOk result (λ text. length text ≤ 1048576) }
 {
     let valid = valid_len(bytes);
     let Ok(text) = str::from_utf8(&bytes[..valid]) else {
@@ -186,7 +187,8 @@ fn first_lone(units: &[u16]) -> Option<u64>
 /// The text of bytes in UTF-16 that stand behind their mark.
 #[tactic(auto, unfolding(crate::specs::Text::utf16_text))]
 fn utf16_text(alloc: Global, bytes: &[u8]) -> Result<Text, TextFault>
-    ensures { Answers result (utf16_text bytes.now) }
+    ensures exact { Answers result (utf16_text bytes.now) }
+    ensures few { IfOk result (λ text. length text ≤ 1048576) }
 {
     let units = le_units(alloc, bytes)?;
     match first_lone(units.as_slice()) {
@@ -201,7 +203,8 @@ fn utf16_text(alloc: Global, bytes: &[u8]) -> Result<Text, TextFault>
 /// The text of a file: behind the mark FF FE it is UTF-16 with the low byte first, else UTF-8, of which a mark EF BB BF
 /// is dropped. A text has at most 1,048,576 units; the first fault in the bytes is told.
 pub fn text_of_bytes(alloc: Global, bytes: &[u8]) -> Result<Text, TextFault>
-    ensures { Answers result (text_of bytes.now) }
+    ensures exact { Answers result (text_of bytes.now) }
+    ensures few { IfOk result (λ text. length text ≤ 1048576) }
 {
     if bytes.starts_with(&[255, 254]) {
         return utf16_text(alloc, rest_from(bytes, 2));
