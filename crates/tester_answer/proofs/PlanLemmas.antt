@@ -1,12 +1,12 @@
 -- How the answers of a plan's parts make the answer of the whole.
-use Rattle.std.proofs.Common.{◌≡◌, inl, inr, ℕ, ◌<◌, ◌≤◌, List, [], length, Option, Some, None, refl, sym, subst, arith}
+use Rattle.std.proofs.Common.{◌≡◌, inl, inr, ℕ, ◌<◌, ◌≤◌, Bool, true, false, nat_lt, ⊎_elim, List, [], length, Option, Some, None, refl, sym, subst, arith}
 use Rattle.std.specs.Prelude.{IsSomeAnd}
 use Rattle.std.specs.Bool.{MatchBool}
 use Rattle.std.proofs.lemmas.Bool.{lt-ltb, le-ltb}
 use Rattle.tester_io.specs.Outside.{Contents, Rose}
 use Rattle.tester_answer.specs.declared.status.Status.{Status}
 use Rattle.tester_answer.specs.declared.status.Status.TheVariants.{Done, Usage, Source, Settings, Prices, CodeFile, Grid, Absent, ReadFault, WriteFault, TooLarge, OutOfMemory}
-use Rattle.tester_answer.specs.Answer.{Plan, Reads, Finds, AfterReading, Gives, Reaches, ReachesAfter, refusal}
+use Rattle.tester_answer.specs.Answer.{Plan, Reads, Finds, Ends, AfterReading, Gives, Reaches, ReachesAfter, refusal}
 use Rattle.tester_answer.specs.Clauses.{ReadCounts, NoneFell, IsReading, ReadingRefused, Refused, Never}
 
 rose_later : (before mid now : ℕ) → before ≤ mid → Rose mid now → Rose before now
@@ -55,6 +55,40 @@ leads_reading name limit next told bytes r = record {
 -- past what a definition is true of
 pub leads_finding : (A : Type 0) (is : A → Type 0) (next : A → Plan) (told : Option Contents) (a : A) → is a → Leads (Finds A is next) (next a) told
 leads_finding A is next told a h = record { gives = λ held i s text after g. (a, h, g); reaches = λ held i wanted g. (a, h, g) }
+
+-- a plan leads to one that is never reached
+pub leads_never : (plan : Plan) (told : Option Contents) → Leads plan (Ends (λ held s text after. ⊥)) told
+leads_never plan told = record { gives = λ held is s text after g. absurd g; reaches = λ held is wanted r. absurd r }
+
+-- readings that go on with plans of which each leads to the other's
+pub leads_both_read : (name : List ℕ) (limit : ℕ) (next rest : List ℕ → Plan) (told : Option Contents) → ((bytes : List ℕ) → Leads (next bytes) (rest bytes) told) → Leads (Reads name limit next) (Reads name limit rest) told
+leads_both_read name limit next rest told each = record {
+  gives = λ held is s text after g. given held is s text after (held name) g;
+  reaches = λ held is wanted r. ⊎_elim (λ e. inl e) (λ a. inr (reached held is wanted (held name) a)) r;
+}
+  where
+    given : (held : Contents) → told ≡ Some held → (s : Status) (text : List ℕ) (after : Contents) (o : Option (List ℕ)) → AfterReading name limit (λ bytes. Gives (rest bytes)) o held s text after → AfterReading name limit (λ bytes. Gives (next bytes)) o held s text after
+    given held is s text after None g = g
+    given held is s text after (Some bytes) g = of_test (nat_lt limit (length bytes)) g
+      where
+        of_test : (b : Bool) → MatchBool b (refusal (TooLarge name) held s text after) (Gives (rest bytes) held s text after) → MatchBool b (refusal (TooLarge name) held s text after) (Gives (next bytes) held s text after)
+        of_test true g = g
+        of_test false g = (each bytes).gives held is s text after g
+
+    reached : (held : Contents) → told ≡ Some held → (wanted : List ℕ) (o : Option (List ℕ)) → ReachesAfter limit (λ bytes. Reaches (rest bytes) wanted held) o → ReachesAfter limit (λ bytes. Reaches (next bytes) wanted held) o
+    reached held is wanted None r = absurd r
+    reached held is wanted (Some bytes) r = of_test (nat_lt limit (length bytes)) r
+      where
+        of_test : (b : Bool) → MatchBool b ⊥ (Reaches (rest bytes) wanted held) → MatchBool b ⊥ (Reaches (next bytes) wanted held)
+        of_test true r = absurd r
+        of_test false r = (each bytes).reaches held is wanted r
+
+-- the same for what a definition is true of
+pub leads_both_find : (A : Type 0) (is : A → Type 0) (next rest : A → Plan) (told : Option Contents) → ((a : A) → Leads (next a) (rest a) told) → Leads (Finds A is next) (Finds A is rest) told
+leads_both_find A is next rest told each = record {
+  gives = λ held i s text after (a, h, g). (a, h, (each a).gives held i s text after g);
+  reaches = λ held i wanted (a, h, r). (a, h, (each a).reaches held i wanted r);
+}
 
 pub none_fell_on : (a b c : ReadCounts) → NoneFell a b → NoneFell b c → NoneFell a c
 none_fell_on a b c p q = record { absents = omega (arith, p.absents, q.absents); read_faults = omega (arith, p.read_faults, q.read_faults); oversizes = omega (arith, p.oversizes, q.oversizes) }

@@ -1,0 +1,12 @@
+use Rattle.std.proofs.Common.{◌≡◌, ◌≤◌, length, All}
+use Rattle.tester_io.specs.Outside.{WhereTold}
+use Rattle.tester_answer.specs.Clauses.{counts, NoneFell}
+use Rattle.tester_sources.specs.Reading.{ReadInTurn}
+use Rattle.tester_sources.proofs.reading.read_sources.Given as goal
+
+abbrev pub invariant-loop : goal.invariant-loop
+invariant-loop g l =
+    (g.F.Files.told l.files ≡ g.F.Files.told l.fn.files)
+    × NoneFell (counts (g.F.Files.absents l.fn.files) (g.F.Files.read_faults l.fn.files) (g.F.Files.oversizes l.fn.files)) (counts (g.F.Files.absents l.files) (g.F.Files.read_faults l.files) (g.F.Files.oversizes l.files))
+    × WhereTold (g.F.Files.told l.fn.files) (λ held. ReadInTurn l.entry held l.sources)
+    × (length l.sources ≤ 512) × All (λ s. length s.text ≤ 1048576) l.sources

@@ -1,0 +1,110 @@
+-- The sources of a program are read in the order of need. Own.
+use Rattle.std.specs.Prelude.{◌≡◌, ◌≤◌, ℕ, zero, suc, List, [], ◌∷◌, ◌++◌, length, Option, Some, None, Result, Ok, Err}
+use Rattle.tester_io.specs.Outside.{Contents}
+use Rattle.mql_tree.specs.declared.text.TextFault.{TextFault}
+use Rattle.mql_tree.specs.declared.token.Span.{Span}
+use Rattle.mql_tree.specs.declared.token.Token as token
+use Rattle.mql_tree.specs.Text.{text_of}
+use Rattle.mql_preproc.specs.declared.source.Source.{Source}
+use Rattle.mql_preproc.specs.declared.fault.PreFault.{PreFault}
+use Rattle.mql_preproc.specs.declared.fault.PreFault.TheVariants.{Need, BadDirective, UnclosedIf, MacroArity, Depth, TooManyTokens, TooManyFiles, Lex, OutOfMemory}
+use Rattle.mql_preproc.specs.Reading.{Preprocesses}
+use Rattle.tester_answer.specs.declared.status.Status.{Status}
+use Rattle.tester_answer.specs.declared.status.Status.TheVariants as status
+use Rattle.tester_answer.specs.Clauses.{IsReading}
+use Rattle.tester_sources.specs.declared.reading.Wanted.{Wanted}
+use Rattle.tester_sources.specs.declared.reading.Wanted.TheVariants as wanted
+use Rattle.tester_answer.specs.Answer.{Plan, Reads, Finds, Ends, refuses}
+use Rattle.tester_sources.specs.Faults.{text_fault, source_fault}
+
+-- the most bytes of a source, 4 MiB
+abbrev pub source_limit : ℕ
+source_limit = 4194304
+
+-- a program has at most so many files
+abbrev pub most_files : ℕ
+most_files = 512
+
+-- the tokens of a program, each with its place
+abbrev pub Tokens : Type 0
+Tokens = List (token.Token × Span)
+
+-- a file with its text
+abbrev pub source : List ℕ → List ℕ → Source
+source name text = record { name = name; text = text }
+
+-- what is never reached
+abbrev pub never : Plan
+never = Ends (λ held s text after. ⊥)
+
+-- goes on with a text, or refuses it by stage 1
+abbrev pub with_text : List ℕ → Result (List ℕ) TextFault → (List ℕ → Plan) → Plan
+with_text name (Ok text) next = next text
+with_text name (Err fault) next = refuses (status.Source (text_fault name fault))
+
+-- goes on with the tokens, or reads the file that is needed, or refuses by stage 2 or 3
+abbrev pub with_tokens : List Source → (List Source → Tokens → Plan) → (List ℕ → Plan) → Result Tokens PreFault → Plan
+with_tokens sources next reads (Ok tokens) = next sources tokens
+with_tokens sources next reads (Err (Need name)) = reads name
+with_tokens sources next reads (Err fault) = refuses (status.Source (source_fault sources fault))
+
+-- The tokens of a program, where these files were read and so many more may be: what preprocessing makes of the files; a
+-- file that it needs is read, and its text is judged as it is read. With 512 files none is needed.
+abbrev pub sources_plan : ℕ → List ℕ → List Source → (List Source → Tokens → Plan) → Plan
+sources_plan zero entry sources next = Finds (Result Tokens PreFault) (Preprocesses entry sources) (with_tokens sources next (λ name. never))
+sources_plan (suc more) entry sources next =
+    Finds (Result Tokens PreFault) (Preprocesses entry sources)
+    (with_tokens sources next (λ name. Reads name source_limit (λ bytes. with_text name (text_of bytes) (λ text. sources_plan more entry (sources ++ source name text ∷ []) next))))
+
+-- the plan of a program that begins with its entry
+unfoldable pub program_plan : List ℕ → (List Source → Tokens → Plan) → Plan
+program_plan entry next = sources_plan most_files entry [] next
+
+-- the files that were read, each needed by those before it
+pub data ReadInTurn (entry : List ℕ) (held : Contents) : List Source → Type 0 where
+  none : ReadInTurn entry held []
+  needed : {sources : List Source} (name bytes text : List ℕ) → ReadInTurn entry held sources → Preprocesses entry sources (Err (Need name)) → held name ≡ Some bytes → length bytes ≤ source_limit → text_of bytes ≡ Ok text
+      → ReadInTurn entry held (sources ++ source name text ∷ [])
+
+-- a file of that name: what it holds is within the limit, and its text is the source's
+pub record IsSource (told : Option Contents) (name : List ℕ) (s : Source) : Type 0 where
+  pub bytes : List ℕ
+  pub reading : IsReading name source_limit told bytes
+  pub text : text_of bytes ≡ Ok s.text
+  pub named : s.name ≡ name
+  pub few : length s.text ≤ 1048576
+
+-- the file that the others need was read, and stands behind them
+pub record NeedMet (entry : List ℕ) (told : Option Contents) (old new : List Source) : Type 0 where
+  pub name : List ℕ
+  pub needs : Preprocesses entry old (Err (Need name))
+  pub added : Source
+  pub is : IsSource told name added
+  pub grew : new ≡ old ++ added ∷ []
+
+-- what preprocessing makes of files: the program's tokens, or the name of a file that it needs
+abbrev pub IsWanted : List ℕ → List Source → Wanted → Type 0
+IsWanted entry sources (wanted.Tokens tokens) = Preprocesses entry sources (Ok tokens)
+IsWanted entry sources (wanted.File name) = Preprocesses entry sources (Err (Need name))
+
+-- a fault that refuses a source, and asks for no file
+abbrev pub Refusing : PreFault → Type 0
+Refusing (Need name) = ⊥
+Refusing OutOfMemory = ⊥
+Refusing _ = Unit {0}
+
+-- preprocessing refuses the files with that status
+abbrev pub FilesRefused : List ℕ → List Source → Status → Type 0
+FilesRefused entry sources (status.Source given) = (fault : PreFault) × Refusing fault × Preprocesses entry sources (Err fault) × (given ≡ source_fault sources fault)
+FilesRefused entry sources status.OutOfMemory = Unit {0}
+FilesRefused entry sources _ = ⊥
+
+-- the bytes of a file are no text, and that status says so
+abbrev pub TextRefused : List ℕ → List ℕ → Status → Type 0
+TextRefused name bytes (status.Source given) = (fault : TextFault) × (text_of bytes ≡ Err fault) × (given ≡ text_fault name fault)
+TextRefused name bytes status.OutOfMemory = Unit {0}
+TextRefused name bytes _ = ⊥
+
+-- the reading of one file
+abbrev pub file_plan : List ℕ → Plan
+file_plan name = Reads name source_limit (λ bytes. with_text name (text_of bytes) (λ text. never))
