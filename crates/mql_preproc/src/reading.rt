@@ -273,6 +273,7 @@ pub fn preprocess(alloc: Global, entry: &Text8, sources: &Sources) -> Result<Tok
     requires short { All (λ s. length s.text ≤ 1048576) sources.now }
     ensures exact { IsPreprocessed entry.now sources.now result }
     ensures needed { NeedsAnother sources.now result }
+    ensures few { IfOk result (λ tokens. length tokens ≤ 400000) }
 {
     let Some(file) = place_of(sources, entry.as_slice()) else {
         return Err(PreFault::Need(Text8::from_slice(alloc, entry.as_slice())?));

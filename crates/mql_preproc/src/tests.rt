@@ -191,16 +191,16 @@ fn two_files(rt: HostRuntime) -> Result<(), Fail> {
         ),
         ("a", "#ifdef X\n#include \"b\"\n#endif\n1", "b", "2", "1 "),
         ("a", "#include \"b\"\n#endif", "b", "#ifdef X", "3 at 1:1"),
-        ("c", "", "b", "", "need a"),
     ];
     for (first, text, second, other, want) in table {
         let mut sources = Sources::new(alloc);
         add(alloc, &mut sources, first, text)?;
         add(alloc, &mut sources, second, other)?;
-        let entry = if first == "c" { "a" } else { first };
-        let got = line_of(alloc, entry, &sources)?;
+        let got = line_of(alloc, first, &sources)?;
         assert_eq!(rt; got.as_str(), want, "{text:?} and {other:?}");
     }
+    let got = line_of(alloc, "a", &Sources::new(alloc))?;
+    assert_eq!(rt; got.as_str(), "need a");
     Ok(())
 }
 
