@@ -1,5 +1,5 @@
 -- No more tokens are made than the limit.
-use Rattle.std.proofs.Common.{◌≡◌, ℕ, ◌+◌, ◌-◌, ◌<◌, ◌≤◌, Bool, true, false, cond, List, [], ◌∷◌, ◌++◌, length, map, refl, sym, ap, subst, ◌∙◌, arith, length-append, Option, Some, None, Result, Ok, Err}
+use Rattle.std.proofs.Common.{◌≡◌, ℕ, ◌+◌, ◌≤◌, Bool, true, false, cond, List, [], ◌∷◌, length, map, refl, ap, subst, arith, length-append, Option, Some, None, Result, Ok, Err}
 use Rattle.std.specs.Prelude.{◌||◌}
 use Rattle.mql_tree.specs.declared.token.Span.{Span}
 use Rattle.mql_tree.specs.declared.token.Token as token
@@ -7,7 +7,7 @@ use Rattle.mql_tree.specs.declared.token.Token.TheVariants as tokens
 use Rattle.mql_macros.specs.declared.piece.Piece.{Piece}
 use Rattle.mql_macros.specs.declared.piece.Macro.{Macro}
 use Rattle.mql_macros.specs.declared.piece.ExpandFault.{ExpandFault}
-use Rattle.mql_macros.specs.Pieces.{fresh, bare}
+use Rattle.mql_macros.specs.Pieces.{bare}
 use Rattle.mql_macros.specs.Expansion as expansion
 use Rattle.mql_macros.specs.Expansion.{prefixed, one_less, HasRoom, Expands, told, Becomes}
 use Rattle.mql_preproc.specs.declared.source.Source.{Source}
@@ -24,7 +24,7 @@ use Rattle.mql_preproc.specs.Words.{word_at, is_condition}
 use Rattle.mql_preproc.specs.Directives.{directive_of}
 use Rattle.mql_preproc.specs.Conditions.{is_active, macros_behind, conditions_behind}
 use Rattle.mql_preproc.specs.Strings.{string_before, before, joined}
-use Rattle.mql_preproc.specs.Reading.{most_tokens, begun, admission, admitted, settled, obeyed, deed, end_of, with_made, Replaces, whole, misfit, too_many, Reads, not_lexed, lexed, Leads, ended, dropped, replaced, not_replaced, obeys, refused, included, not_included, Preprocesses, absent, made, faulty}
+use Rattle.mql_preproc.specs.Reading.{most_tokens, admission, admitted, settled, obeyed, deed, end_of, Replaces, whole, misfit, too_many, Reads, not_lexed, lexed, Leads, ended, dropped, replaced, not_replaced, obeys, refused, included, not_included, Preprocesses, made}
 
 -- an answer keeps to its room
 abbrev Fits : Option ℕ → Result (List Piece) ExpandFault → Type 0

@@ -1,5 +1,5 @@
 -- A program becomes one thing.
-use Rattle.std.proofs.Common.{◌≡◌, ℕ, ◌+◌, Bool, true, false, List, [], ◌∷◌, refl, sym, ap, subst, ◌∙◌, Option, Some, None, Result, Ok, Err}
+use Rattle.std.proofs.Common.{◌≡◌, ℕ, ◌+◌, Bool, true, false, List, refl, sym, ap, subst, ◌∙◌, Option, Some, None, Result, Ok, Err}
 use Rattle.std.specs.Prelude.{slice_get}
 use Rattle.mql_tree.specs.declared.token.Span.{Span}
 use Rattle.mql_tree.specs.declared.token.Token as token
@@ -11,7 +11,7 @@ use Rattle.mql_macros.specs.declared.piece.ExpandFault.TheVariants as expanding
 use Rattle.mql_macros.specs.Expansion.{Outcome, Becomes}
 use Rattle.mql_preproc.specs.declared.source.Source.{Source}
 use Rattle.mql_preproc.specs.declared.fault.PreFault.{PreFault}
-use Rattle.mql_preproc.specs.declared.fault.PreFault.TheVariants.{Need, MacroArity, TooManyTokens, Lex}
+use Rattle.mql_preproc.specs.declared.fault.PreFault.TheVariants.{MacroArity, TooManyTokens, Lex}
 use Rattle.mql_preproc.specs.declared.state.State.{State}
 use Rattle.mql_preproc.specs.declared.state.Progress.{Progress}
 use Rattle.mql_preproc.specs.declared.state.Deed.{Deed}
@@ -21,7 +21,7 @@ use Rattle.mql_preproc.specs.Parts.{Part, Nothing, Run, part}
 use Rattle.mql_preproc.specs.Parts as parts
 use Rattle.mql_preproc.specs.Strings.{joined}
 use Rattle.mql_preproc.specs.Conditions.{is_active}
-use Rattle.mql_preproc.specs.Reading.{begun, most_tokens, deed, end_of, with_made, with_state, entered, Replaces, whole, misfit, too_many, Reads, not_lexed, lexed, Leads, ended, dropped, replaced, not_replaced, obeys, refused, included, not_included, Preprocesses, absent, made, faulty}
+use Rattle.mql_preproc.specs.Reading.{deed, end_of, with_made, with_state, entered, Replaces, whole, misfit, too_many, Reads, not_lexed, lexed, Leads, ended, dropped, replaced, not_replaced, obeys, refused, included, not_included, Preprocesses, absent, made, faulty}
 
 -- a text has one answer
 abbrev pub OneLex : Type 0
