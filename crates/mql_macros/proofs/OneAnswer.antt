@@ -1,15 +1,12 @@
 -- A run has one answer.
-use Rattle.std.proofs.Common.{◌≡◌, ℕ, zero, suc, ◌<◌, List, [], ◌∷◌, ◌++◌, map, refl, sym, ap, subst, ◌∙◌, arith, Option, Some, None, Result, Ok, Err}
+use Rattle.std.proofs.Common.{◌≡◌, ℕ, ◌<◌, List, [], ◌∷◌, ◌++◌, refl, sym, ap, subst, ◌∙◌, arith, Option, Some, Result, Ok, Err}
 use Rattle.mql_tree.specs.declared.token.Span.{Span}
 use Rattle.mql_tree.specs.declared.token.Token as token
 use Rattle.mql_macros.specs.declared.piece.Piece.{Piece}
 use Rattle.mql_macros.specs.declared.piece.Macro.{Macro}
 use Rattle.mql_macros.specs.declared.piece.ExpandFault.{ExpandFault}
-use Rattle.mql_macros.specs.declared.piece.ExpandFault.TheVariants.{Arity, TooManyTokens}
 use Rattle.mql_macros.specs.declared.look.Look.{Look}
 use Rattle.mql_macros.specs.declared.look.Look.TheVariants.{Stays, Misfit, Replaced}
-use Rattle.mql_macros.specs.Pieces.{fresh}
-use Rattle.mql_macros.specs.Looks.{look_at}
 use Rattle.mql_macros.specs.Replacement.{replacement}
 use Rattle.mql_macros.specs.Expansion.{Answer, Outcome, prefixed, led, HasRoom, one_less, Expands, ended, kept, full, misfit, replaced, faulty, Replaces, all_done, one_done, one_faulty, told, Becomes}
 

@@ -1,6 +1,5 @@
 -- What the states of the code's work still come to: no definition for readers.
-use Rattle.std.specs.Prelude.{◌≡◌, ℕ, ◌+◌, ◌-◌, List, [], ◌∷◌, ◌++◌, length, Option, Some, None, Result, Ok, Err}
-use Rattle.mql_tree.specs.declared.token.Span.{Span}
+use Rattle.std.specs.Prelude.{◌≡◌, ℕ, ◌-◌, List, [], ◌∷◌, ◌++◌, length, Option, Some, None, Result, Ok, Err}
 use Rattle.mql_macros.specs.declared.piece.Piece.{Piece}
 use Rattle.mql_macros.specs.declared.piece.Macro.{Macro}
 use Rattle.mql_macros.specs.declared.piece.ExpandFault.{ExpandFault}
@@ -10,7 +9,7 @@ use Rattle.mql_macros.specs.declared.work.Work.{Work}
 use Rattle.mql_macros.specs.declared.work.Progress.{Progress}
 use Rattle.mql_macros.specs.declared.work.Progress.TheVariants.{On, Made}
 use Rattle.mql_macros.specs.Replacement.{replacement}
-use Rattle.mql_macros.specs.Expansion.{Answer, prefixed, HasRoom, Expands, Replaces}
+use Rattle.mql_macros.specs.Expansion.{prefixed, HasRoom, Expands, Replaces}
 
 -- the room that is left: inside a call tokens are not counted
 abbrev pub left : ℕ → List Piece → List Frame → Option ℕ

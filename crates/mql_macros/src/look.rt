@@ -165,6 +165,7 @@ fn call_at(alloc: Global, rest: Stack<Piece>) -> Result<Option<Call>, OutOfMemor
         match turn_of(mark_of(&piece.token), depth)? {
             Turn::Ends => {
                 arguments.push(Stack::of_list(argument))?;
+                rest.settle();
                 return Ok(Some(Call {
                     arguments,
                     after: rest,
