@@ -1,0 +1,9 @@
+pub mod Cutting
+pub mod Folders
+pub mod Innermost
+pub mod Joining
+pub mod Limits
+pub mod Needs
+pub mod OneAnswer
+pub mod Parameters
+pub mod Steps
