@@ -1,0 +1,6 @@
+pub mod Steps
+pub mod Completeness
+pub mod Soundness
+pub mod Least
+pub mod Exactness
+pub mod Choices

@@ -1,0 +1,5 @@
+pub mod Exact
+pub mod Follow
+pub mod Forms
+pub mod Parse
+pub mod Table
