@@ -4,3 +4,5 @@ pub mod Soundness
 pub mod Least
 pub mod Exactness
 pub mod Choices
+pub mod TableChecked
+pub mod TableLaws

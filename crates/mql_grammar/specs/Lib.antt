@@ -3,3 +3,4 @@ pub mod Follow
 pub mod Forms
 pub mod Parse
 pub mod Table
+pub mod Dots

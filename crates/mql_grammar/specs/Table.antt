@@ -8,9 +8,9 @@ pub record Row : Type 0 where
   pub forms : List ℕ
   pub to : ℕ
 
--- a token of a class begins the next part, and opens nodes of these forms for that
+-- a token of one of these classes begins the next part, and opens nodes of these forms for that
 pub record Lead : Type 0 where
-  pub class : ℕ
+  pub classes : List ℕ
   pub path : List ℕ
 
 -- all that is known of one dot
@@ -81,7 +81,7 @@ over (r ∷ rs) h = elim (fits r h) [ true ↦ r.to | false ↦ over rs h ]
 -- the path of a class at a dot, where a token of the class begins a part there
 abbrev pub lead_at : List Lead → ℕ → Option (List ℕ)
 lead_at [] c = None
-lead_at (e ∷ es) c = elim (nat_eq e.class c) [ true ↦ Some e.path | false ↦ lead_at es c ]
+lead_at (e ∷ es) c = elim (listed c e.classes) [ true ↦ Some e.path | false ↦ lead_at es c ]
 
 abbrev pub is_lead : Option (List ℕ) → Bool
 is_lead None = false
@@ -142,7 +142,7 @@ leads_to t d c (f ∷ fs) = both (live d (of_form f)) (λ _. both (is_path (lead
 
 -- what begins a form begins it where it may stand
 abbrev pub check_down : Table → Dot → ℕ → Bool
-check_down t d f = every (λ e. is_path (lead_at d.leads e.class) (f ∷ e.path)) (first t f).leads
+check_down t d f = every (λ e. every (λ c. is_path (lead_at d.leads c) (f ∷ e.path)) e.classes) (first t f).leads
 
 -- what a wrapping form may begin with may stand where it may
 abbrev pub check_inner : Table → Dot → ℕ → Bool
@@ -172,14 +172,17 @@ check_row t d r =
 abbrev pub check_dot : Table → Dot → Bool
 check_dot t d =
     both (every (check_row t d) d.rows) (λ _.
-    both (every (λ e. leads_to t d e.class e.path) d.leads) (λ _.
+    both (every (λ e. every (λ c. leads_to t d c e.path) e.classes) d.leads) (λ _.
     elim d.bare [ true ↦ true | false ↦ every (check_apart t d) t.operators ]))
 
 -- behind its first part a wrapping form goes on with its own operator, and does not end
+abbrev pub check_mine : Table → ℕ → Row → ℕ → Bool
+check_mine t f r c = both (live (at t r.to) (of_class c)) (λ _. nat_eq (wrapper t.operators c) f)
+
 abbrev pub check_onward : Table → ℕ → Row → Bool
 check_onward t f r =
     both (opposite (at t r.to).ends) (λ _.
-    every (λ e. both (live (at t r.to) (of_class e.class)) (λ _. nat_eq (wrapper t.operators e.class) f)) (at t r.to).leads)
+    every (λ e. every (check_mine t f r) e.classes) (at t r.to).leads)
 
 abbrev pub check_operator : Table → ℕ → Bool
 check_operator t f = every (check_onward t f) (first t f).rows
