@@ -18,11 +18,13 @@ pub declines_from : (g : Grammar) (w : Follow) → Lawful g → Followed g w →
 declines_from g w law fol c (leaf k) h done may rule = tt
 declines_from g w law fol c (node f) h done may rule = done
 declines_from g w law fol c (add p t) h done may rule =
-    let mine : w.may (of_form (w.owner (dot g p))) c ≡ true = subst (λ (x : Head). w.may x c ≡ true) (sym (owner_of g w law fol p h.0 (nonleaf_live g law p (head g t) h.3) (next_live g law (dot g p) (head g t) h.3))) may in
-    (declines_from g w law fol c t h.1 h.2 (fol.outer (dot g p) c (head g t) h.3 done mine) rule.0,
-     (elim (w.rule (w.owner (dot g p)) c) as (λ v. w.rule (w.owner (dot g p)) c ≡ v → taken g (add p t) c ≡ false) [
-        true ↦ λ is. rule.1 is
-      | false ↦ λ is. (let both = fol.quiet (dot g p) c (head g t) h.3 done mine is in or_false _ _ both.0 both.1) ]) refl)
+    let mine : w.may (of_form (w.owner (dot g p))) c ≡ true = subst (λ (x : Head). w.may x c ≡ true) (sym (owner_of g w law fol p h.0 (nonleaf_live g law p (head g t) h.3) (next_live g law (dot g p) (head g t) h.3))) may in (
+      declines_from g w law fol c t h.1 h.2 (fol.outer (dot g p) c (head g t) h.3 done mine) rule.0,
+      (elim (w.rule (w.owner (dot g p)) c) as (λ v. w.rule (w.owner (dot g p)) c ≡ v → taken g (add p t) c ≡ false) [
+        | true ↦ λ is. rule.1 is
+        | false ↦ λ is. (let both = fol.quiet (dot g p) c (head g t) h.3 done mine is in or_false _ _ both.0 both.1)
+      ]) refl,
+    )
 
 seam_from : (g : Grammar) (w : Follow) → Lawful g → Followed g w → (p t : Spine) (ks : List ℕ) → Formed g p → Formed g t → 0 < g.next (dot g p) (head g t) → yield t ≡ ks → RuleSeam g w p ks → Seam g p ks
 seam_from g w law fol p t [] hp ht here e rule = tt

@@ -38,8 +38,9 @@ first_takes g law (add (leaf j) w) q k plain part here first = absurd (nothing (
     nothing h = omega arith
 first_takes g law (add (node f) w) q k plain part here first =
     (elim (g.wraps f) as (λ b. g.wraps f ≡ b → g.takes q (g.class k) ≡ true) [
-       true ↦ λ is. first_takes g law w q k plain part.1 (law.inner q f (head g w) plain here is part.2) first
-     | false ↦ λ is. (law.down q f (g.class k) here is (first_takes g law w (g.start f) k (law.bare_start f is) part.1 part.2 first)).0 ]) refl
+      | true ↦ λ is. first_takes g law w q k plain part.1 (law.inner q f (head g w) plain here is part.2) first
+      | false ↦ λ is. (law.down q f (g.class k) here is (first_takes g law w (g.start f) k (law.bare_start f is) part.1 part.2 first)).0
+    ]) refl
 first_takes g law (add (add a b) w) q k plain part here first =
     first_takes g law (add a b) q k plain (formed_partial g (add a b) part.0) here
     (first_left k (yield (add a b)) (yield w) (formed_nonempty g (add a b) part.0 tt) first)
@@ -115,12 +116,13 @@ true_false e = cc
 wrapping : (g : Grammar) → Lawful g → (f : ℕ) (w p : Spine) (s : List Spine) (st : State) → g.wraps f ≡ true → g.bare (dot g p) ≡ false → 0 < g.next (dot g p) (of_form f) → 0 < g.next (g.start f) (head g w) → Done g w p s st → Done g (add (node f) w) p s st
 wrapping g law f w p s st is plain here next d =
     let opened : Formed g (add (node f) w) → IsAdd (add (node f) w) → Opened g (add (node f) w) p s d.after =
-          λ parts it k or declines.
-            d.closed parts.1 parts.2 k declines ∙
-            (elim or [
-               inl t ↦ (let op = law.operator f (g.class k) (head g w) is next t in
-                        step_wrap g law k f p w s plain here (law.inner (dot g p) f (head g w) plain here is next) op.1 op.0)
-             | inr e ↦ absurd (true_false (sym e ∙ law.unended f (head g w) is next)) ]) in
+    λ parts it k or declines.
+    d.closed parts.1 parts.2 k declines ∙
+    (elim or [
+      | inl t ↦ (let op = law.operator f (g.class k) (head g w) is next t in
+          step_wrap g law k f p w s plain here (law.inner (dot g p) f (head g w) plain here is next) op.1 op.0)
+      | inr e ↦ absurd (true_false (sym e ∙ law.unended f (head g w) is next))
+    ]) in
     record {
       after = d.after;
       runs = d.runs;
@@ -136,22 +138,23 @@ feed g law (node f) p s st part here at = node_case g f p s st at
 feed g law (add (leaf j) w) p s st part here at = absurd (no_next (rw (law.dead (head g w)) at part.2))
 feed g law (add (node f) w) p s st part here at =
     (elim (g.wraps f) as (λ b. g.wraps f ≡ b → Done g (add (node f) w) p s st) [
-       true ↦ λ is.
-         wrapping g law f w p s st is at.plain here part.2
-         (feed g law w p s st part.1 (law.inner (dot g p) f (head g w) at.plain here is part.2) (record { same = at.same; plain = at.plain; small = at.small }))
-     | false ↦ λ is.
-         (let below : Small st (add p (node f)) s = small_in st p (add p (node f)) s at.small (omega arith) (omega arith) in
+      | true ↦ λ is.
+          wrapping g law f w p s st is at.plain here part.2
+          (feed g law w p s st part.1 (law.inner (dot g p) f (head g w) at.plain here is part.2) (record { same = at.same; plain = at.plain; small = at.small }))
+      | false ↦ λ is.
+          (let below : Small st (add p (node f)) s = small_in st p (add p (node f)) s at.small (omega arith) (omega arith) in
           grown g (node f) w p s st st refl
           (feed g law w (node f) (p ∷ s) st part.1 part.2 (record {
-             same = λ k first. at.same k first ∙ step_open g law k f p s here is (first_takes g law w (g.start f) k (law.bare_start f is) part.1 part.2 first);
-             plain = law.bare_start f is;
-             small = record { deep = below.deep; many = below.many };
-           }))) ]) refl
+            same = λ k first. at.same k first ∙ step_open g law k f p s here is (first_takes g law w (g.start f) k (law.bare_start f is) part.1 part.2 first);
+            plain = law.bare_start f is;
+            small = record { deep = below.deep; many = below.many };
+          })))
+    ]) refl
 feed g law (add (add a b) w) p s st part here at =
     let one = feed g law (add a b) p s st (formed_partial g (add a b) part.0) here (record { same = λ k first. at.same k (first_append k (yield (add a b)) (yield w) first); plain = at.plain; small = at.small }) in
     grown g (add a b) w p s st one.after one.runs
     (feed g law w (add a b) (p ∷ s) one.after part.1 part.2 (record {
-       same = λ k first. one.opened part.0 tt k (inl (first_takes g law w (dot g (add a b)) k (law.bare_next (dot g a) (head g b) part.0.3) part.1 part.2 first)) (seam_first g (add a b) (yield w) k part.3 first);
-       plain = law.bare_next (dot g a) (head g b) part.0.3;
-       small = record { deep = one.small.deep; many = one.small.many };
-     }))
+      same = λ k first. one.opened part.0 tt k (inl (first_takes g law w (dot g (add a b)) k (law.bare_next (dot g a) (head g b) part.0.3) part.1 part.2 first)) (seam_first g (add a b) (yield w) k part.3 first);
+      plain = law.bare_next (dot g a) (head g b) part.0.3;
+      small = record { deep = one.small.deep; many = one.small.many };
+    }))

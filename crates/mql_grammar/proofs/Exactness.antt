@@ -25,7 +25,6 @@ run_one g f k before st e = run_append g before (k ∷ []) (begin f) ∙ rw e (l
     last None = refl
     last (Some x) = refl
 
-
 -- Nothing is whole where the end mark is refused, or leaves a node open.
 pub not_whole : (g : Grammar) → Lawful g → (f mark : ℕ) → Plain g f → (before : List ℕ) (st : State) (o : Option State) → run g before (begin f) ≡ Some st → step g mark st ≡ o → ((t : Spine) → o ≡ Some (ended mark t) → ⊥) → (t : Spine) → Parses g f mark before t → ⊥
 not_whole g law f mark plain before st o runs e never t is =
@@ -75,8 +74,9 @@ shaped g (add p t) c h = tt
 put_flat : (g : Grammar) (k : ℕ) (t : Spine) (s : List Spine) (x u : Spine) (y : State) → taken g t (g.class k) ≡ true → put g k t s ≡ y → y.top ≡ add x u → y.below ≡ [] → Flat k t s x u
 put_flat g k t s x u y on e top below =
     (elim (g.takes (dot g t) (g.class k)) as (λ v. g.takes (dot g t) (g.class k) ≡ v → cond v (open_along (g.path (dot g t) (g.class k)) k t s) (wrap_last (g.wrap (g.class k)) k t s) ≡ y → Flat k t s x u) [
-       true ↦ λ is e'. grow_flat (g.path (dot g t) (g.class k)) k t s x u y e' top below
-     | false ↦ λ is e'. rewrap_flat (g.wrap (g.class k)) k t s x u y (shaped g t (g.class k) (or_cases _ _ on is)) e' top below ]) refl e
+      | true ↦ λ is e'. grow_flat (g.path (dot g t) (g.class k)) k t s x u y e' top below
+      | false ↦ λ is e'. rewrap_flat (g.wrap (g.class k)) k t s x u y (shaped g t (g.class k) (or_cases _ _ on is)) e' top below
+    ]) refl e
 
 flat_plug : (k : ℕ) (t : Spine) (s : List Spine) (x u : Spine) → Flat k t s x u → joined t s ≡ x
 flat_plug k t s x u h = ap (joined t) h.below ∙ h.tree
@@ -85,11 +85,12 @@ flat_plug k t s x u h = ap (joined t) h.below ∙ h.tree
 pub end_tree : (g : Grammar) → Lawful g → (k : ℕ) (st y : State) (x u : Spine) → Held g st → step g k st ≡ Some y → y.top ≡ add x u → y.below ≡ [] → (joined st.top st.below ≡ x) × (u ≡ leaf k)
 end_tree g law k st y x u held e top below =
     (elim (settle g (g.class k) st.top st.below) as (λ o. settle g (g.class k) st.top st.below ≡ o → put_into g k o ≡ Some y → (joined st.top st.below ≡ x) × (u ≡ leaf k)) [
-       None ↦ λ is e'. absurd (none_some y e')
-     | Some mid ↦ λ is e'.
-         (let r = settle_ok g k st.top st.below mid (waits g k st.top st.below (record { parts = held.parts; below = held.below; fresh = held.fresh })) (held_above g st held) is in
+      | None ↦ λ is e'. absurd (none_some y e')
+      | Some mid ↦ λ is e'.
+          (let r = settle_ok g k st.top st.below mid (waits g k st.top st.below (record { parts = held.parts; below = held.below; fresh = held.fresh })) (held_above g st held) is in
           let flat = put_flat g k mid.top mid.below x u y r.takes (some_same _ y e') top below in
-          (sym r.same ∙ flat_plug k mid.top mid.below x u flat, flat.last)) ]) refl e
+          (sym r.same ∙ flat_plug k mid.top mid.below x u flat, flat.last))
+    ]) refl e
 
 begin_held : (g : Grammar) (f : ℕ) → Held g (begin f)
 begin_held g f = record { parts = tt; below = tt; fresh = tt }
@@ -103,12 +104,14 @@ end_whole g law f mark plain l before st t u m e =
     let y : State = record { top = add t u; below = [] } in
     let one = step_held g law mark st y held e in
     let same = end_tree g law mark st y t u held e refl refl in
-    let least = held_least g law f plain before st m.runs in
-    (record {
-       whole = subst (λ (x : Spine). Formed g (add t x)) same.1 one.held.parts;
-       rooted = one.root ∙ least.found.rooted;
-       spelled = ap yield (sym same.0) ∙ least.found.spelled;
-     }, record { deep = rw (← same.0) m.deep; many = rw (← same.0) m.many })
+    let least = held_least g law f plain before st m.runs in (
+      record {
+        whole = subst (λ (x : Spine). Formed g (add t x)) same.1 one.held.parts;
+        rooted = one.root ∙ least.found.rooted;
+        spelled = ap yield (sym same.0) ∙ least.found.spelled;
+      },
+      record { deep = rw (← same.0) m.deep; many = rw (← same.0) m.many },
+    )
 
 open_end : (mark : ℕ) (t u q : Spine) (s : List Spine) → Some (record { top = t; below = q ∷ s }) ≡ Some (ended mark u) → ⊥
 open_end mark t u q s e =
@@ -136,32 +139,39 @@ reach_there : (g : Grammar) → Lawful g → (f : ℕ) → Plain g f → (l : Li
 reach_there g law f plain l before k ks st m = rw (take-append_seam before (k ∷ ks)) (reaches g law f plain l before st m)
 
 pub syntax_there : (g : Grammar) → Lawful g → (f mark : ℕ) → Plain g f → (l : Limits) (before : List ℕ) (k : ℕ) (ks : List ℕ) (st : State) → Mid g f l before st → step g k st ≡ None → Refuses g f mark l (before ++ k ∷ ks) (syntax_at (length before))
-syntax_there g law f mark plain l before k ks st m e =
-    (less (len before k ks), reach_there g law f plain l before k ks st m,
-     (λ lt. rw (take_before before k ks) (nowhere g law f plain (before ++ k ∷ []) (run_one g f k before st m.runs ∙ e))),
-     (λ same. absurd (unlike (len before k ks) same)))
+syntax_there g law f mark plain l before k ks st m e = (
+  less (len before k ks),
+  reach_there g law f plain l before k ks st m,
+  (λ lt. rw (take_before before k ks) (nowhere g law f plain (before ++ k ∷ []) (run_one g f k before st m.runs ∙ e))),
+  (λ same. absurd (unlike (len before k ks) same)),
+)
   where
     less : {a b : ℕ} → a < b → a ≤ b
     less h = omega arith
+
     unlike : {a b : ℕ} → a < b → a ≡ b → ⊥
     unlike h e = omega arith
 
 pub depth_there : (g : Grammar) → Lawful g → (f mark : ℕ) → Plain g f → (l : Limits) (before : List ℕ) (k : ℕ) (ks : List ℕ) (st st' : State) → Mid g f l before st → step g k st ≡ Some st' → l.deep < depth_of st' → Refuses g f mark l (before ++ k ∷ ks) (depth_at (length before))
 depth_there g law f mark plain l before k ks st st' m e deep =
-    let least = held_least g law f plain (before ++ k ∷ []) st' (run_one g f k before st m.runs ∙ e) in
-    (len before k ks, reach_there g law f plain l before k ks st m,
-     rw (take_before before k ks) (joined st'.top st'.below, least.found),
-     rw (take_before before k ks) (λ t is. over deep (least.deep t is)))
+    let least = held_least g law f plain (before ++ k ∷ []) st' (run_one g f k before st m.runs ∙ e) in (
+      len before k ks,
+      reach_there g law f plain l before k ks st m,
+      rw (take_before before k ks) (joined st'.top st'.below, least.found),
+      rw (take_before before k ks) (λ t is. over deep (least.deep t is)),
+    )
   where
     over : {a b c : ℕ} → a < b → b ≤ c → a < c
     over p q = omega arith
 
 pub nodes_there : (g : Grammar) → Lawful g → (f mark : ℕ) → Plain g f → (l : Limits) (before : List ℕ) (k : ℕ) (ks : List ℕ) (st st' : State) → Mid g f l before st → step g k st ≡ Some st' → depth_of st' ≤ l.deep → l.many < count_of st' → Refuses g f mark l (before ++ k ∷ ks) (nodes_at (length before))
 nodes_there g law f mark plain l before k ks st st' m e deep many =
-    let least = held_least g law f plain (before ++ k ∷ []) st' (run_one g f k before st m.runs ∙ e) in
-    (len before k ks, reach_there g law f plain l before k ks st m,
-     rw (take_before before k ks) (joined st'.top st'.below, least.found, deep),
-     rw (take_before before k ks) (λ t is within. over many (least.many t is) within.many))
+    let least = held_least g law f plain (before ++ k ∷ []) st' (run_one g f k before st m.runs ∙ e) in (
+      len before k ks,
+      reach_there g law f plain l before k ks st m,
+      rw (take_before before k ks) (joined st'.top st'.below, least.found, deep),
+      rw (take_before before k ks) (λ t is within. over many (least.many t is) within.many),
+    )
   where
     over : {a b c : ℕ} → a < b → b ≤ c → c ≤ a → ⊥
     over p q r = omega arith
@@ -177,14 +187,17 @@ pub parse_exact : (g : Grammar) → Lawful g → (f mark : ℕ) → Plain g f �
 parse_exact g law f mark plain l before [] st m = rw (append_nil before) (end_ok g law f mark plain l before st (step g mark st) m refl)
 parse_exact g law f mark plain l before (k ∷ ks) st m =
     (elim (step g k st) as (λ o. step g k st ≡ o → Exact g f mark l (before ++ k ∷ ks) (parse_after o l (length before) (parse_on g mark l (length before + 1) ks))) [
-       None ↦ λ e. syntax_there g law f mark plain l before k ks st m e
-     | Some st' ↦ λ e.
-         (elim (nat_lt l.deep (depth_of st')) as (λ v. nat_lt l.deep (depth_of st') ≡ v → Exact g f mark l (before ++ k ∷ ks) (cond v (fault (depth_at (length before))) (cond (nat_lt l.many (count_of st')) (fault (nodes_at (length before))) (parse_on g mark l (length before + 1) ks st')))) [
-            true ↦ λ is. depth_there g law f mark plain l before k ks st st' m e (lt_yes _ _ is)
-          | false ↦ λ is.
-              (elim (nat_lt l.many (count_of st')) as (λ v. nat_lt l.many (count_of st') ≡ v → Exact g f mark l (before ++ k ∷ ks) (cond v (fault (nodes_at (length before))) (parse_on g mark l (length before + 1) ks st'))) [
-                 true ↦ λ is'. nodes_there g law f mark plain l before k ks st st' m e (lt_not _ _ is) (lt_yes _ _ is')
-               | false ↦ λ is'.
-                   (let more = parse_exact g law f mark plain l (before ++ k ∷ []) ks st' (record { runs = run_one g f k before st m.runs ∙ e; deep = lt_not _ _ is; many = lt_not _ _ is' }) in
-                    subst (λ (xs : List ℕ). Exact g f mark l xs (parse_on g mark l (length before + 1) ks st')) (append_assoc before (k ∷ []) ks)
-                    (subst (λ (n : ℕ). Exact g f mark l ((before ++ k ∷ []) ++ ks) (parse_on g mark l n ks st')) (length-append before (k ∷ [])) more)) ]) refl ]) refl ]) refl
+      | None ↦ λ e. syntax_there g law f mark plain l before k ks st m e
+      | Some st' ↦ λ e.
+          (elim (nat_lt l.deep (depth_of st')) as (λ v. nat_lt l.deep (depth_of st') ≡ v → Exact g f mark l (before ++ k ∷ ks) (cond v (fault (depth_at (length before))) (cond (nat_lt l.many (count_of st')) (fault (nodes_at (length before))) (parse_on g mark l (length before + 1) ks st')))) [
+            | true ↦ λ is. depth_there g law f mark plain l before k ks st st' m e (lt_yes _ _ is)
+            | false ↦ λ is.
+                (elim (nat_lt l.many (count_of st')) as (λ v. nat_lt l.many (count_of st') ≡ v → Exact g f mark l (before ++ k ∷ ks) (cond v (fault (nodes_at (length before))) (parse_on g mark l (length before + 1) ks st'))) [
+                  | true ↦ λ is'. nodes_there g law f mark plain l before k ks st st' m e (lt_not _ _ is) (lt_yes _ _ is')
+                  | false ↦ λ is'.
+                      (let more = parse_exact g law f mark plain l (before ++ k ∷ []) ks st' (record { runs = run_one g f k before st m.runs ∙ e; deep = lt_not _ _ is; many = lt_not _ _ is' }) in
+                      subst (λ (xs : List ℕ). Exact g f mark l xs (parse_on g mark l (length before + 1) ks st')) (append_assoc before (k ∷ []) ks)
+                      (subst (λ (n : ℕ). Exact g f mark l ((before ++ k ∷ []) ++ ks) (parse_on g mark l n ks st')) (length-append before (k ∷ [])) more))
+                ]) refl
+          ]) refl
+    ]) refl

@@ -6,3 +6,5 @@ pub mod Exactness
 pub mod Choices
 pub mod TableChecked
 pub mod TableLaws
+pub mod Segments
+pub mod Lookups

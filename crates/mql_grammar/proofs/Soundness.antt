@@ -47,10 +47,14 @@ nonempty_right (x ∷ xs) ys h = tt
 
 pub below_more : (g : Grammar) (ks js : List ℕ) (h : Head) (s : List Spine) → Nonempty ks → Below g ks h s → Below g (ks ++ js) h s
 below_more g ks js h [] n b = tt
-below_more g ks js h (p ∷ s) n b =
-    (b.0, b.1, b.2, seam_more g p ks js n b.3,
-     subst (λ (xs : List ℕ). Below g xs (head g p) s) (append_assoc (yield p) ks js)
-     (below_more g (yield p ++ ks) js (head g p) s (nonempty_right (yield p) ks n) b.4))
+below_more g ks js h (p ∷ s) n b = (
+  b.0,
+  b.1,
+  b.2,
+  seam_more g p ks js n b.3,
+  subst (λ (xs : List ℕ). Below g xs (head g p) s) (append_assoc (yield p) ks js)
+      (below_more g (yield p ++ ks) js (head g p) s (nonempty_right (yield p) ks n) b.4),
+)
 
 pub joined_partial : (g : Grammar) (t : Spine) (s : List Spine) → Partial g t → Below g (yield t) (head g t) s → Partial g (joined t s)
 joined_partial g t [] part b = part
@@ -111,11 +115,13 @@ settle_ok g k (node f) (p ∷ s) st w b e = absurd b
 settle_ok g k (add x y) (p ∷ s) st w b e =
     let t : Spine = add x y in
     (elim (taken g t (g.class k)) as (λ v. taken g t (g.class k) ≡ v → cond v (Some (record { top = t; below = p ∷ s })) (cond (g.ends (dot g t)) (settle g (g.class k) (add p t) s) None) ≡ Some st → Settled g k t (p ∷ s) st) [
-       true ↦ λ is e'. here_settled g k t (p ∷ s) st w is (some_same _ _ e')
-     | false ↦ λ is e'.
-         (elim (g.ends (dot g t)) as (λ v. g.ends (dot g t) ≡ v → cond v (settle g (g.class k) (add p t) s) None ≡ Some st → Settled g k t (p ∷ s) st) [
-            true ↦ λ en e''. (let r = settle_ok g k (add p t) s st (close_waits g k x y p s w is en) (above_begun (add p t) s tt) e'' in record { waits = r.waits; takes = r.takes; same = r.same })
-          | false ↦ λ en e''. absurd (none_some st e'') ]) refl e' ]) refl e
+      | true ↦ λ is e'. here_settled g k t (p ∷ s) st w is (some_same _ _ e')
+      | false ↦ λ is e'.
+          (elim (g.ends (dot g t)) as (λ v. g.ends (dot g t) ≡ v → cond v (settle g (g.class k) (add p t) s) None ≡ Some st → Settled g k t (p ∷ s) st) [
+            | true ↦ λ en e''. (let r = settle_ok g k (add p t) s st (close_waits g k x y p s w is en) (above_begun (add p t) s tt) e'' in record { waits = r.waits; takes = r.takes; same = r.same })
+            | false ↦ λ en e''. absurd (none_some st e'')
+          ]) refl e'
+    ]) refl e
 
 -- What a step leaves.
 pub record Stepped (g : Grammar) (k : ℕ) (t : Spine) (s : List Spine) (st : State) : Type 0 where
@@ -202,8 +208,13 @@ wrap_held g law k (add p u) s w h =
     record {
       held = record {
         parts = ((tt, w.parts.1, w.parts.2, next_live g law _ _ next, seam_node g f (yield u)), tt, tt, next, w.declines);
-        below = (w.parts.0, nonleaf_live g law p (of_form f) here, here, seam_more g p (yield u) (k ∷ []) full w.parts.4,
-                 subst (λ (xs : List ℕ). Below g xs (head g p) s) (append_assoc (yield p) (yield u) (k ∷ [])) w.below);
+        below = (
+          w.parts.0,
+          nonleaf_live g law p (of_form f) here,
+          here,
+          seam_more g p (yield u) (k ∷ []) full w.parts.4,
+          subst (λ (xs : List ℕ). Below g xs (head g p) s) (append_assoc (yield p) (yield u) (k ∷ [])) w.below,
+        );
         fresh = tt;
       };
       spelled = joined_yield (add p (add (add (node f) u) (leaf k))) (add p u) s (k ∷ []) (sym (append_assoc (yield p) (yield u) (k ∷ [])));
@@ -213,8 +224,9 @@ wrap_held g law k (add p u) s w h =
 pub put_held : (g : Grammar) → Lawful g → (k : ℕ) (t : Spine) (s : List Spine) → Waits g k t s → taken g t (g.class k) ≡ true → Stepped g k t s (put g k t s)
 put_held g law k t s w on =
     (elim (g.takes (dot g t) (g.class k)) as (λ v. g.takes (dot g t) (g.class k) ≡ v → Stepped g k t s (cond v (open_along (g.path (dot g t) (g.class k)) k t s) (wrap_last (g.wrap (g.class k)) k t s))) [
-       true ↦ λ is. open_along_held g (g.path (dot g t) (g.class k)) k t s w (law.leads (dot g t) (g.class k) is)
-     | false ↦ λ is. wrap_held g law k t s w (or_cases _ _ on is) ]) refl
+      | true ↦ λ is. open_along_held g (g.path (dot g t) (g.class k)) k t s w (law.leads (dot g t) (g.class k) is)
+      | false ↦ λ is. wrap_held g law k t s w (or_cases _ _ on is)
+    ]) refl
 
 pub held_above : (g : Grammar) (st : State) → Held g st → Above st.top st.below
 held_above g st h = step_above st.top st.below h.fresh
@@ -230,16 +242,17 @@ held_above g st h = step_above st.top st.below h.fresh
 pub step_held : (g : Grammar) → Lawful g → (k : ℕ) (st st' : State) → Held g st → step g k st ≡ Some st' → Stepped g k st.top st.below st'
 step_held g law k st st' held e =
     (elim (settle g (g.class k) st.top st.below) as (λ o. settle g (g.class k) st.top st.below ≡ o → put_into g k o ≡ Some st' → Stepped g k st.top st.below st') [
-       None ↦ λ is e'. absurd (none_some st' e')
-     | Some mid ↦ λ is e'.
-         (let r = settle_ok g k st.top st.below mid (waits g k st.top st.below (record { parts = held.parts; below = held.below; fresh = held.fresh })) (held_above g st held) is in
+      | None ↦ λ is e'. absurd (none_some st' e')
+      | Some mid ↦ λ is e'.
+          (let r = settle_ok g k st.top st.below mid (waits g k st.top st.below (record { parts = held.parts; below = held.below; fresh = held.fresh })) (held_above g st held) is in
           let x = put_held g law k mid.top mid.below r.waits r.takes in
           subst (λ (y : State). Stepped g k st.top st.below y) (some_same _ st' e')
           (record {
-             held = x.held;
-             spelled = x.spelled ∙ ap (λ t. yield t ++ k ∷ []) r.same;
-             root = x.root ∙ ap (head g) r.same;
-           })) ]) refl e
+            held = x.held;
+            spelled = x.spelled ∙ ap (λ t. yield t ++ k ∷ []) r.same;
+            root = x.root ∙ ap (head g) r.same;
+          }))
+    ]) refl e
 
 pub record Ran (g : Grammar) (ks : List ℕ) (st st' : State) : Type 0 where
   pub held : Held g st'
@@ -251,12 +264,13 @@ run_held g law [] st st' held e =
     subst (λ (y : State). Ran g [] st y) (some_same st st' e) (record { held = held; spelled = sym (append_nil _); root = refl })
 run_held g law (k ∷ ks) st st' held e =
     (elim (step g k st) as (λ o. step g k st ≡ o → and_then o (run g ks) ≡ Some st' → Ran g (k ∷ ks) st st') [
-       None ↦ λ is e'. absurd (none_some st' e')
-     | Some mid ↦ λ is e'.
-         (let one = step_held g law k st mid held is in
+      | None ↦ λ is e'. absurd (none_some st' e')
+      | Some mid ↦ λ is e'.
+          (let one = step_held g law k st mid held is in
           let more = run_held g law ks mid st' one.held e' in
           record {
             held = more.held;
             spelled = more.spelled ∙ ap (λ xs. xs ++ ks) one.spelled ∙ append_assoc (yield (joined st.top st.below)) (k ∷ []) ks;
             root = more.root ∙ one.root;
-          }) ]) refl e
+          })
+    ]) refl e

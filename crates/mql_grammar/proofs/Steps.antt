@@ -52,7 +52,7 @@ pub step_wrap : (g : Grammar) → Lawful g → (k f : ℕ) (p u : Spine) (s : Li
 step_wrap g law k f p u s plain here inside is next =
     subst (λ (x : ℕ). stepped g k (add p u) s ≡ stepped g k (add (node x) u) (p ∷ s)) is
     (wrap_at g law k p u s plain (subst (λ (x : ℕ). 0 < g.next (dot g p) (of_form x)) (sym is) here) inside
-     (subst (λ (x : ℕ). 0 < g.next (g.next (g.start x) (head g u)) (of_class (g.class k))) (sym is) next))
+    (subst (λ (x : ℕ). 0 < g.next (g.next (g.start x) (head g u)) (of_class (g.class k))) (sym is) next))
 
 pub step_close : (g : Grammar) (k : ℕ) (p r : Spine) (s : List Spine) → taken g p (g.class k) ≡ false → g.ends (dot g p) ≡ true → stepped g k p (r ∷ s) ≡ stepped g k (add r p) s
 step_close g k p r s h e = rw (h, e) refl

@@ -90,8 +90,9 @@ pub row_for : (rows : List Row) (h : Head) → 0 < over rows h → RowFor rows h
 row_for [] h l = absurd (none_below l)
 row_for (r ∷ rs) h l =
     (elim (fits r h) as (λ v. fits r h ≡ v → 0 < (elim v [ true ↦ r.to | false ↦ over rs h ]) → RowFor (r ∷ rs) h) [
-       true ↦ λ is l'. record { row = r; mem = inl refl; fit = is; to = ap (λ (v : Bool). elim v [ true ↦ r.to | false ↦ over rs h ]) is }
-     | false ↦ λ is l'. later_row r rs h (ap (λ (v : Bool). elim v [ true ↦ r.to | false ↦ over rs h ]) is) (row_for rs h l') ]) refl l
+      | true ↦ λ is l'. record { row = r; mem = inl refl; fit = is; to = ap (λ (v : Bool). elim v [ true ↦ r.to | false ↦ over rs h ]) is }
+      | false ↦ λ is l'. later_row r rs h (ap (λ (v : Bool). elim v [ true ↦ r.to | false ↦ over rs h ]) is) (row_for rs h l')
+    ]) refl l
 
 -- the lead of a class
 pub record LeadFor (leads : List Lead) (c : ℕ) : Type 0 where
@@ -104,8 +105,9 @@ pub lead_for : (leads : List Lead) (c : ℕ) → is_lead (lead_at leads c) ≡ t
 lead_for [] c e = absurd (false_true e)
 lead_for (x ∷ xs) c e =
     (elim (listed c x.classes) as (λ v. listed c x.classes ≡ v → is_lead (elim v [ true ↦ Some x.path | false ↦ lead_at xs c ]) ≡ true → LeadFor (x ∷ xs) c) [
-       true ↦ λ is e'. record { lead = x; mem = inl refl; fit = listed_in c x.classes is; path = ap (λ (v : Bool). path_of (elim v [ true ↦ Some x.path | false ↦ lead_at xs c ])) is }
-     | false ↦ λ is e'. (let y = lead_for xs c e' in record { lead = y.lead; mem = inr y.mem; fit = y.fit; path = ap (λ (v : Bool). path_of (elim v [ true ↦ Some x.path | false ↦ lead_at xs c ])) is ∙ y.path }) ]) refl e
+      | true ↦ λ is e'. record { lead = x; mem = inl refl; fit = listed_in c x.classes is; path = ap (λ (v : Bool). path_of (elim v [ true ↦ Some x.path | false ↦ lead_at xs c ])) is }
+      | false ↦ λ is e'. (let y = lead_for xs c e' in record { lead = y.lead; mem = inr y.mem; fit = y.fit; path = ap (λ (v : Bool). path_of (elim v [ true ↦ Some x.path | false ↦ lead_at xs c ])) is ∙ y.path })
+    ]) refl e
 
 -- the operator of a class, where it has one
 pub record OperatorFor (os : List Operator) (c : ℕ) : Type 0 where
@@ -118,8 +120,9 @@ pub operator_for : (os : List Operator) (c : ℕ) → (wrapper os c ≡ 0) ⊎ O
 operator_for [] c = inl refl
 operator_for (o ∷ os) c =
     (elim (nat_eq o.class c) as (λ v. nat_eq o.class c ≡ v → (wrapper (o ∷ os) c ≡ 0) ⊎ OperatorFor (o ∷ os) c) [
-       true ↦ λ is. inr (record { operator = o; mem = inl refl; class = eq_same o.class c is; form = ap (λ (v : Bool). elim v [ true ↦ o.form | false ↦ wrapper os c ]) is })
-     | false ↦ λ is. (elim (operator_for os c) [ inl z ↦ inl (ap (λ (v : Bool). elim v [ true ↦ o.form | false ↦ wrapper os c ]) is ∙ z) | inr y ↦ inr (record { operator = y.operator; mem = inr y.mem; class = y.class; form = ap (λ (v : Bool). elim v [ true ↦ o.form | false ↦ wrapper os c ]) is ∙ y.form }) ]) ]) refl
+      | true ↦ λ is. inr (record { operator = o; mem = inl refl; class = eq_same o.class c is; form = ap (λ (v : Bool). elim v [ true ↦ o.form | false ↦ wrapper os c ]) is })
+      | false ↦ λ is. (elim (operator_for os c) [ inl z ↦ inl (ap (λ (v : Bool). elim v [ true ↦ o.form | false ↦ wrapper os c ]) is ∙ z) | inr y ↦ inr (record { operator = y.operator; mem = inr y.mem; class = y.class; form = ap (λ (v : Bool). elim v [ true ↦ o.form | false ↦ wrapper os c ]) is ∙ y.form }) ])
+    ]) refl
 
 -- what a table that passes has passed
 pub record Passed (t : Table) : Type 0 where
@@ -258,8 +261,9 @@ some_apart t e q h o plain m l l2 l3 =
     let two = then_true (live d (of_form o.form)) (λ _. every (check_apart_row t o) d.rows) one (up_lt (over d.rows (of_form o.form)) l) in
     let three = every_in (check_apart_row t o) d.rows y.row two y.mem in
     (elim (is_lead (lead_at (at t y.row.to).leads o.class)) as (λ v. is_lead (lead_at (at t y.row.to).leads o.class) ≡ v → is_lead (lead_at (at t (over d.rows h)).leads o.class) ≡ false) [
-       true ↦ λ is. absurd (clear (live (at t (over (first t o.form).rows h)) (of_class o.class)) (head_passes (check_clear t o) y.row h (then_true (is_lead (lead_at (at t y.row.to).leads o.class)) (λ _. heads (check_clear t o) y.row) three is) y.fit) (up_lt (over (at t (over (first t o.form).rows h)).rows (of_class o.class)) l3))
-     | false ↦ λ is. subst (λ (n : ℕ). is_lead (lead_at (at t n).leads o.class) ≡ false) (sym y.to) is ]) refl
+      | true ↦ λ is. absurd (clear (live (at t (over (first t o.form).rows h)) (of_class o.class)) (head_passes (check_clear t o) y.row h (then_true (is_lead (lead_at (at t y.row.to).leads o.class)) (λ _. heads (check_clear t o) y.row) three is) y.fit) (up_lt (over (at t (over (first t o.form).rows h)).rows (of_class o.class)) l3))
+      | false ↦ λ is. subst (λ (n : ℕ). is_lead (lead_at (at t n).leads o.class) ≡ false) (sym y.to) is
+    ]) refl
   where
     clear : (b : Bool) → opposite b ≡ true → b ≡ true → ⊥
     clear b p r = false_true (sym (opposite_false b p) ∙ r)
@@ -268,14 +272,15 @@ is_apart : (t : Table) → check t ≡ true → (q c : ℕ) (h : Head) → (at t
 is_apart t e q c h plain l l2 l3 =
     let x = row_for (at t q).rows (of_form (wrapper t.operators c)) l in
     (elim (operator_for t.operators c) [
-       inl z ↦ absurd (false_true (sym (row_at_passed t e q x.row x.mem).nonzero ∙ subst (λ (n : ℕ). listed n x.row.forms ≡ true) z x.fit))
-     | inr w ↦
-         (let form_is : wrapper t.operators c ≡ w.operator.form = w.form in
+      | inl z ↦ absurd (false_true (sym (row_at_passed t e q x.row x.mem).nonzero ∙ subst (λ (n : ℕ). listed n x.row.forms ≡ true) z x.fit))
+      | inr w ↦
+          (let form_is : wrapper t.operators c ≡ w.operator.form = w.form in
           subst (λ (n : ℕ). is_lead (lead_at (at t (over (at t q).rows h)).leads n) ≡ false) w.class
           (some_apart t e q h w.operator plain w.mem
-           (subst (λ (n : ℕ). 0 < over (at t q).rows (of_form n)) form_is l) l2
-           (subst (λ (n : ℕ). 0 < over (at t (over (first t w.operator.form).rows h)).rows (of_class n)) (sym w.class)
-            (subst (λ (n : ℕ). 0 < over (at t (over (first t n).rows h)).rows (of_class c)) form_is l3)))) ])
+          (subst (λ (n : ℕ). 0 < over (at t q).rows (of_form n)) form_is l) l2
+          (subst (λ (n : ℕ). 0 < over (at t (over (first t w.operator.form).rows h)).rows (of_class n)) (sym w.class)
+          (subst (λ (n : ℕ). 0 < over (at t (over (first t n).rows h)).rows (of_class c)) form_is l3))))
+    ])
 
 starts_two : (t : Table) (n q : ℕ) (qs : List ℕ) → check_starts t n (q ∷ qs) ≡ true → ((elim (listed n t.wraps) [ true ↦ true | false ↦ opposite (at t q).bare ]) ≡ true) × (check_starts t (suc n) qs ≡ true)
 starts_two t n q qs e = both_true (elim (listed n t.wraps) [ true ↦ true | false ↦ opposite (at t q).bare ]) (λ _. check_starts t (suc n) qs) e

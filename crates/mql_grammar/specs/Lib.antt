@@ -4,3 +4,6 @@ pub mod Forms
 pub mod Parse
 pub mod Table
 pub mod Dots
+pub mod Rules
+pub mod Steps
+pub mod Numbers

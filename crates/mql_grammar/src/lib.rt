@@ -1,11 +1,11 @@
 //! The grammar of MQL5 as data, and why a parser by it is exact.
 #![tactic(auto)]
 
-ghost use Rattle.std.specs.Prelude.{◌≡◌};
+mod lookup;
+mod node_form;
+mod rows;
+mod token_class;
 
-/// Placeholder.
-pub fn echo(x: usize) -> usize
-    ensures { result ≡ x }
-{
-    x
-}
+pub use lookup::{Opening, ends, next_class, next_form, opens, start, wrapper};
+pub use node_form::Form;
+pub use token_class::Class;
