@@ -1,10 +1,10 @@
 -- Greed is no more than the rules of choice.
-use Rattle.std.proofs.Common.{◌≡◌, ℕ, ◌<◌, Bool, true, false, ◌&&◌, ◌||◌, List, [], ◌∷◌, refl, sym, ◌∙◌, ap, subst, arith}
-use Rattle.mql_grammar.specs.Forms.{Head, of_class, of_form, Grammar, Spine, leaf, node, add, yield, head, dot, taken, wrapped, Declines, LastDeclines, Seam, IsWhole, Formed, Lawful}
-use Rattle.mql_grammar.specs.Follow.{Follow, Followed, wraps_at, RuleDeclines, LastRuleDeclines, RuleSeam, RuleFormed}
+use Rattle.std.proofs.Common.{◌≡◌, ℕ, ◌<◌, Bool, true, false, ◌||◌, List, [], ◌∷◌, refl, sym, ◌∙◌, ap, subst}
+use Rattle.mql_grammar.specs.Forms.{Head, of_form, Grammar, Spine, leaf, node, add, yield, head, dot, taken, Declines, Seam, IsWhole, Formed, Lawful}
+use Rattle.mql_grammar.specs.Follow.{Follow, Followed, RuleDeclines, RuleSeam, RuleFormed}
 use Rattle.mql_grammar.proofs.Steps.{formed_partial, First}
 use Rattle.mql_grammar.proofs.Completeness.{first_takes}
-use Rattle.mql_grammar.proofs.Soundness.{NonLeaf, nonleaf_live, next_live, seam_node}
+use Rattle.mql_grammar.proofs.Soundness.{NonLeaf, nonleaf_live, next_live}
 
 owner_of : (g : Grammar) (w : Follow) → Lawful g → Followed g w → (p : Spine) → Formed g p → NonLeaf p → 0 < dot g p → of_form (w.owner (dot g p)) ≡ head g p
 owner_of g w law fol (leaf k) h n up = absurd n

@@ -8,3 +8,4 @@ pub mod TableChecked
 pub mod TableLaws
 pub mod Segments
 pub mod Lookups
+pub mod Theorem

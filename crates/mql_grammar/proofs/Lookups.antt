@@ -1,16 +1,15 @@
 -- What the look-ups find is what the grammar says.
 use Rattle.std.proofs.Common.{◌≡◌, ℕ, zero, suc, ◌+◌, ◌<◌, ◌≤◌, Bool, true, false, cond, nat_eq, nat_lt, map, find, slice_get, unwrap_or, List, [], ◌∷◌, Option, Some, None, refl, sym, ◌∙◌, ap, subst, ◌⊎◌, inl, inr, arith}
-use Rattle.mql_grammar.specs.Forms.{Head, of_class, of_form, Lawful, IsPath}
-use Rattle.mql_grammar.specs.Table.{Row, Lead, Dot, Operator, no_dot, dot_at, at, number_at, listed, every, over, lead_at, is_lead, path_of, wrapper, grammar_of, leads_to, live}
+use Rattle.mql_grammar.specs.Forms.{of_class, of_form, Lawful, IsPath}
+use Rattle.mql_grammar.specs.Table.{Row, Lead, Dot, Operator, dot_at, at, number_at, listed, every, over, lead_at, is_lead, path_of, wrapper, grammar_of}
 use Rattle.mql_grammar.specs.Dots.{mql_dots, mql_table}
-use Rattle.mql_grammar.specs.Rules.{dot_next, dot_ends, dot_path, dot_bare, form_start, form_wraps, class_wrapper, rules}
-use Rattle.mql_grammar.specs.declared.lookup.Opening.{Opening}
+use Rattle.mql_grammar.specs.Rules.{dot_next, dot_ends, dot_path, dot_bare, form_start, form_wraps, class_wrapper, rules, program}
 use Rattle.mql_grammar.specs.declared.lookup.Opening.TheVariants.{Nothing, Part, Node}
 use Rattle.mql_grammar.specs.declared.rows.TokenStep.{TokenStep}
 use Rattle.mql_grammar.specs.declared.rows.FormStep.{FormStep}
 use Rattle.mql_grammar.specs.declared.rows.TheConstants.{STARTS, ENDS, WRAPPERS}
 use Rattle.mql_grammar.specs.Steps.{first_form, lead_steps, steps_of_leads, row_steps, steps_of_rows, token_steps_at, form_steps_at, class_to, class_opens, form_to, class_to_in, class_opens_in, form_to_in, or_nowhere, opening_of}
-use Rattle.mql_grammar.proofs.TableLaws.{lawful, eq_same, false_true, row_for, row_at_passed, test_and}
+use Rattle.mql_grammar.proofs.TableLaws.{lawful, eq_same, false_true, row_for, row_at_passed, test_and, path_onward}
 use Rattle.mql_grammar.proofs.TableChecked.{mql_checks}
 use Rattle.mql_grammar.proofs.Segments.{number_of}
 
@@ -34,16 +33,18 @@ find_lead : (rows : List Row) (path cs : List ℕ) (rest : List TokenStep) (c : 
 find_lead rows path [] rest c = refl
 find_lead rows path (x ∷ cs) rest c =
     (elim (nat_eq x c) as (λ v. nat_eq x c ≡ v → cond v (Some (step_on rows x path)) (find (λ s. nat_eq s.class c) (lead_steps rows path cs rest)) ≡ elim (either v (listed c cs)) [ true ↦ Some (step_on rows c path) | false ↦ find (λ s. nat_eq s.class c) rest ]) [
-       true ↦ λ is. ap (λ (n : ℕ). Some (step_on rows n path)) (eq_same x c is)
-     | false ↦ λ is. find_lead rows path cs rest c ]) refl
+      | true ↦ λ is. ap (λ (n : ℕ). Some (step_on rows n path)) (eq_same x c is)
+      | false ↦ λ is. find_lead rows path cs rest c
+    ]) refl
 
 find_step : (rows : List Row) (leads : List Lead) (c : ℕ) → find (λ s. nat_eq s.class c) (steps_of_leads rows leads) ≡ found rows c (lead_at leads c)
 find_step rows [] c = refl
 find_step rows (e ∷ es) c =
     find_lead rows e.path e.classes (steps_of_leads rows es) c ∙
     (elim (listed c e.classes) as (λ v. (elim v [ true ↦ Some (step_on rows c e.path) | false ↦ find (λ s. nat_eq s.class c) (steps_of_leads rows es) ]) ≡ found rows c (elim v [ true ↦ Some e.path | false ↦ lead_at es c ])) [
-       true ↦ refl
-     | false ↦ find_step rows es c ])
+      | true ↦ refl
+      | false ↦ find_step rows es c
+    ])
 
 abbrev node_on : ℕ → ℕ → FormStep
 node_on f to = record { form = f; to = to }
@@ -52,8 +53,9 @@ find_row : (to : ℕ) (fs : List ℕ) (rest : List FormStep) (f : ℕ) → or_no
 find_row to [] rest f = refl
 find_row to (x ∷ fs) rest f =
     (elim (nat_eq x f) as (λ v. or_nowhere (form_to (cond v (Some (node_on x to)) (find (λ s. nat_eq s.form f) (row_steps to fs rest)))) ≡ elim (either v (listed f fs)) [ true ↦ to | false ↦ or_nowhere (form_to (find (λ s. nat_eq s.form f) rest)) ]) [
-       true ↦ refl
-     | false ↦ find_row to fs rest f ])
+      | true ↦ refl
+      | false ↦ find_row to fs rest f
+    ])
 
 find_over : (rows : List Row) (f : ℕ) → or_nowhere (form_to (find (λ s. nat_eq s.form f) (steps_of_rows rows))) ≡ over rows (of_form f)
 find_over [] f = refl
@@ -206,3 +208,18 @@ form_step steps q f o e x = ap or_nowhere (x ∙ ap (λ (s : List FormStep). for
 
 pub opens_step : (steps : List TokenStep) (q c : ℕ) (o : Option ℕ) → steps ≡ token_steps_at q → o ≡ class_opens_in steps c → class_opens_in (token_steps_at q) c ≡ o
 opens_step steps q c o e x = sym (x ∙ ap (λ (s : List TokenStep). class_opens_in s c) e)
+
+pub opens_onward : (q c f : ℕ) (fs : List ℕ) → dot_path q c ≡ Some (f ∷ fs) → dot_path (form_start f) c ≡ Some fs
+unfolding dot_path form_start
+opens_onward q c f fs e =
+    let both = path_onward mql_table mql_checks q c f fs (ap is_lead e) (ap path_of e) in
+    some_path (lead_at (at mql_table (number_at mql_table.starts f)).leads c) fs both.0 both.1
+  where
+    some_path : (o : Option (List ℕ)) (fs : List ℕ) → is_lead o ≡ true → path_of o ≡ fs → o ≡ Some fs
+    some_path None fs a b = absurd (false_true a)
+    some_path (Some p) fs a b = ap (λ (x : List ℕ). Some x) b
+
+-- nothing wraps around a whole file
+pub program_outer : dot_bare (form_start program) ≡ false
+unfolding dot_bare form_start
+program_outer = refl

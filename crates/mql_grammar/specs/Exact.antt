@@ -1,6 +1,6 @@
 -- What is asked of a parser (own).
-use Rattle.std.specs.Prelude.{◌≡◌, ℕ, ◌+◌, ◌<◌, ◌≤◌, List, [], ◌∷◌, ◌++◌, Option, Some, None, take, length}
-use Rattle.mql_grammar.specs.Forms.{Head, of_form, Grammar, Spine, leaf, node, add, yield, depth, count, head, Formed, Partial, State}
+use Rattle.std.specs.Prelude.{◌≡◌, ℕ, ◌+◌, ◌<◌, ◌≤◌, List, take, length}
+use Rattle.mql_grammar.specs.Forms.{of_form, Grammar, Spine, leaf, add, yield, depth, count, head, Formed, Partial}
 
 -- a tree of form f of these tokens, whose last node on each level may lack later parts
 pub record IsPartial (g : Grammar) (f : ℕ) (ks : List ℕ) (t : Spine) : Type 0 where

@@ -7,3 +7,4 @@ pub mod Dots
 pub mod Rules
 pub mod Steps
 pub mod Numbers
+pub mod Laws

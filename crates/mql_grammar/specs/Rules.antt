@@ -1,5 +1,5 @@
 -- The grammar of MQL5, over tokens of any classes (MQL5 Reference, Language Basics).
-use Rattle.std.specs.Prelude.{ℕ, ◌≡◌, Bool, List, [], ◌∷◌, Option, Some, None}
+use Rattle.std.specs.Prelude.{ℕ, Bool, List, Option}
 use Rattle.mql_grammar.specs.Forms.{Head, Grammar}
 use Rattle.mql_grammar.specs.Table.{at, number_at, over, lead_at, is_lead, path_of, wrapper, listed}
 use Rattle.mql_grammar.specs.Dots.{mql_table}

@@ -1,6 +1,6 @@
 -- What the code's table has for a dot, by the grammar's table.
-use Rattle.std.specs.Prelude.{ℕ, ◌≡◌, ◌+◌, ◌-◌, Bool, true, false, find, nat_eq, nat_le, length, take, drop, List, [], ◌∷◌, Option, Some, None}
-use Rattle.mql_grammar.specs.Forms.{of_class, of_form}
+use Rattle.std.specs.Prelude.{ℕ, ◌-◌, true, false, find, nat_eq, nat_le, length, take, drop, List, [], ◌∷◌, Option, Some, None}
+use Rattle.mql_grammar.specs.Forms.{of_class}
 use Rattle.mql_grammar.specs.Table.{Row, Lead, Dot, at, over, both}
 use Rattle.mql_grammar.specs.Dots.{mql_table}
 use Rattle.mql_grammar.specs.declared.lookup.Opening.{Opening}
