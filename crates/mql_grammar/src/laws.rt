@@ -1,7 +1,7 @@
 //! What is proved of the grammar, for all tokens. These functions do nothing: each one's contract is its law.
 ghost use Rattle.std.specs.Prelude.{◌≡◌, ℕ};
 ghost use Rattle.mql_grammar.specs.Forms.{Grammar, Lawful};
-ghost use Rattle.mql_grammar.specs.Laws.{IsOuter, ParsesExactly, HasOneTree, OpensOnward};
+ghost use Rattle.mql_grammar.specs.Laws.{IsOuter, ParsesExactly, HasOneTree, OpensOnward, OpensFew};
 ghost use Rattle.mql_grammar.specs.Rules.{rules, program};
 
 /// The grammar of MQL5 is lawful, whatever the classes of the tokens are.
@@ -23,7 +23,8 @@ pub fn trees_are_unique()
     ensures mql { (class : ℕ → ℕ) → HasOneTree (rules class) program }
 {}
 
-/// The nodes that a token opens are found one after another, each at the first dot of the one before.
+/// The nodes that a token opens are found one after another, each at the first dot of the one before; they are two at most.
 pub fn openings_go_on()
-    ensures { OpensOnward }
+    ensures onward { OpensOnward }
+    ensures few { OpensFew }
 {}
