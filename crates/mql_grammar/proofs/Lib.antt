@@ -9,3 +9,5 @@ pub mod TableLaws
 pub mod Segments
 pub mod Lookups
 pub mod Theorem
+pub mod FollowChecked
+pub mod FollowLaws

@@ -8,3 +8,6 @@ pub mod Rules
 pub mod Steps
 pub mod Numbers
 pub mod Laws
+pub mod FollowTable
+pub mod Following
+pub mod RulesOfChoice

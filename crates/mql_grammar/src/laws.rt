@@ -3,6 +3,7 @@ ghost use Rattle.std.specs.Prelude.{◌≡◌, ℕ};
 ghost use Rattle.mql_grammar.specs.Forms.{Grammar, Lawful};
 ghost use Rattle.mql_grammar.specs.Laws.{IsOuter, ParsesExactly, HasOneTree, OpensOnward, OpensFew};
 ghost use Rattle.mql_grammar.specs.Rules.{rules, program};
+ghost use Rattle.mql_grammar.specs.RulesOfChoice.{GreedIsChoice};
 
 /// The grammar of MQL5 is lawful, whatever the classes of the tokens are.
 pub fn grammar_is_lawful()
@@ -27,4 +28,9 @@ pub fn trees_are_unique()
 pub fn openings_go_on()
     ensures onward { OpensOnward }
     ensures few { OpensFew }
+{}
+
+/// Where two trees are possible, the rules of choice alone say which one it is.
+pub fn greed_is_choice()
+    ensures { (class : ℕ → ℕ) → GreedIsChoice class }
 {}
