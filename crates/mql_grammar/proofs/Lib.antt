@@ -11,3 +11,8 @@ pub mod Lookups
 pub mod Theorem
 pub mod FollowChecked
 pub mod FollowLaws
+pub mod Derivatives
+pub mod Beginnings
+pub mod Onward
+pub mod Simulation
+pub mod ExpressionsChecked

@@ -8,7 +8,8 @@ mod rows;
 mod token_class;
 
 pub use laws::{
-    answers_are_exact, grammar_is_lawful, greed_is_choice, openings_go_on, trees_are_unique,
+    answers_are_exact, grammar_is_lawful, greed_is_choice, nodes_follow_expressions,
+    openings_go_on, trees_are_unique,
 };
 pub use lookup::{Opening, ends, next_class, next_form, opens, start, wrapper};
 pub use node_form::Form;
