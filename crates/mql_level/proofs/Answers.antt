@@ -35,3 +35,6 @@ from_place xs i x h e = drop-cons xs i x h ∙ ap (λ y. y ∷ drop (suc i) xs) 
 -- the exit of a `?`
 pub exit : {A : Type 0} (r : Result A LevelFault) (e : LevelFault) (w : Read A) → IsErrAnd r (λ x. x ≡ e) → Answers (Err e) w → Answers r w
 exit r e w is h = let p = err_from_is_err_and r is in subst (λ r. Answers r w) (sym (p.1 ∙ ap Err p.2)) h
+
+pub then_err : {A B : Type 0} (f : A → Read B) (e : LevelFault) (w : Read A) → Answers {A = A} (Err e) w → Answers {A = B} (Err e) (w >>= f)
+then_err f e w h = err_on (λ w. w >>= f) (λ place. refl) e w h

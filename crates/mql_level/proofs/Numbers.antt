@@ -23,7 +23,7 @@ module _ (tokens : List (Token × Span)) (scope : Scope) where
   numbers_row : (n : _) (row : Row_of-Tree n) → numbers tokens scope row ≡ numbers_in tokens scope (list_of row)
   unfolding numbers numbers_in
   numbers_row n end_of-Tree = refl
-  numbers_row n (more_of-Tree t ts) = ap (with_number tokens (stands tokens scope part.Number t) (number tokens scope t)) (numbers_row _ ts)
+  numbers_row n (more_of-Tree t ts) = ap (with_number (stands tokens scope part.Number t) (number tokens scope t)) (numbers_row _ ts)
 
   number_node : (form : ℕ) (ts : List Tree) → number tokens scope (v.Node form ts) ≡ formed (number_form tokens scope (node_kind form) ts) (first (v.Node form ts)) (numbers_in tokens scope ts)
   unfolding number
@@ -61,19 +61,19 @@ module _ (tokens : List (Token × Span)) (scope : Scope) where
   pub read_more : (found : List Expression) (t : Tree) (ts : List Tree) (e : Expression) → true ≡ stands tokens scope part.Number t → number tokens scope t ≡ Ok e → ahead found (numbers_in tokens scope (t ∷ ts)) ≡ ahead (found ++ e ∷ []) (numbers_in tokens scope ts)
   unfolding numbers_in
   read_more found t ts e s h =
-      ap (λ b. ahead found (with_number tokens b (number tokens scope t) (numbers_in tokens scope ts))) (sym s)
-      ∙ ap (λ w. ahead found (with_number tokens true w (numbers_in tokens scope ts))) h
+      ap (λ b. ahead found (with_number b (number tokens scope t) (numbers_in tokens scope ts))) (sym s)
+      ∙ ap (λ w. ahead found (with_number true w (numbers_in tokens scope ts))) h
       ∙ ahead_more found e (numbers_in tokens scope ts)
 
   pub pass_on : (found : List Expression) (t : Tree) (ts : List Tree) → false ≡ stands tokens scope part.Number t → ahead found (numbers_in tokens scope (t ∷ ts)) ≡ ahead found (numbers_in tokens scope ts)
   unfolding numbers_in
-  pass_on found t ts s = ap (λ b. ahead found (with_number tokens b (number tokens scope t) (numbers_in tokens scope ts))) (sym s)
+  pass_on found t ts s = ap (λ b. ahead found (with_number b (number tokens scope t) (numbers_in tokens scope ts))) (sym s)
 
   pub read_err : (found : List Expression) (t : Tree) (ts : List Tree) (e : LevelFault) → true ≡ stands tokens scope part.Number t → Answers {A = Expression} (Err e) (number tokens scope t) → Answers {A = List Expression} (Err e) (ahead found (numbers_in tokens scope (t ∷ ts)))
   unfolding numbers_in
   read_err found t ts e s h =
-      let f : Read Expression → Read (List Expression) = λ w. ahead found (with_number tokens true w (numbers_in tokens scope ts)) in
-      subst (λ b. Answers {A = List Expression} (Err e) (ahead found (with_number tokens b (number tokens scope t) (numbers_in tokens scope ts)))) s
+      let f : Read Expression → Read (List Expression) = λ w. ahead found (with_number true w (numbers_in tokens scope ts)) in
+      subst (λ b. Answers {A = List Expression} (Err e) (ahead found (with_number b (number tokens scope t) (numbers_in tokens scope ts)))) s
       (err_on f (λ place. refl) e (number tokens scope t) h)
 
   pub read_all : (found : List Expression) (ts rest : List Tree) → numbers_in tokens scope ts ≡ ahead found (numbers_in tokens scope rest) → rest ≡ [] → numbers_in tokens scope ts ≡ Ok found

@@ -43,9 +43,13 @@ module _ (tokens : List (Token × Span)) where
   body_of place (Tree-F.Leaf k) = Err place
   body_of place (Tree-F.Node form parts) = body_at (node_kind form) parts place
 
+  abbrev pub block : Tree → Read Sequence
+  block t = body_of (first t) (out-Tree t)
+
+  -- the block at a place among parts
   unfoldable pub body : Option Tree → Read Sequence
   body None = Err None
-  body (Some t) = body_of (first t) (out-Tree t)
+  body (Some t) = block t
 
   -- `void OnTick ( )` and a block
   unfoldable pub is_on_tick : List Tree → Bool
@@ -77,6 +81,9 @@ module _ (tokens : List (Token × Span)) where
   program_in place (Tree-F.Leaf k) = Err place
   program_in place (Tree-F.Node form parts) = program_at (node_kind form) parts place
 
+  abbrev pub program_items : Tree → Read Sequence
+  program_items t = program_in (first t) (out-Tree t)
+
   -- the program that a tree is
   unfoldable pub program : Tree → Read Checked
-  program t = program_in (first t) (out-Tree t) >>= λ b. Ok (program_of b)
+  program t = program_items t >>= λ b. Ok (program_of b)

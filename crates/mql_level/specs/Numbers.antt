@@ -39,9 +39,10 @@ abbrev pub truth : Bool → Expression
 truth true = made.Number kinds.Bool (pos 1)
 truth false = made.Number kinds.Bool (pos 0)
 
--- an expression before others
-abbrev pub before : Expression → Read (List Expression) → Read (List Expression)
-before e es = es >>= λ es. Ok (e ∷ es)
+-- a number in front of others, where the tree may be one
+abbrev pub with_number : Bool → Read Expression → Read (List Expression) → Read (List Expression)
+with_number true one others = one >>= λ e. others >>= λ es. Ok (e ∷ es)
+with_number false one others = others
 
 -- an operator on ints
 abbrev pub applied : Operator → Read (List Expression) → Read Expression
@@ -67,6 +68,12 @@ compared (Some operator) place operands = applied (Binary operator) operands
 abbrev pub map_joined : Option IntOperator → Option NumberForm
 map_joined None = None
 map_joined (Some operator) = Some (Joined operator)
+
+-- `true` and `false`
+abbrev pub truth_of : Bool → Bool → Option ℕ → Read Expression
+truth_of true other place = Ok (truth true)
+truth_of false true place = Ok (truth false)
+truth_of false false place = Err place
 
 module _ (tokens : List (Token × Span)) where
   -- two numbers that a sign joins
@@ -123,11 +130,6 @@ module _ (tokens : List (Token × Span)) where
   abbrev pub leaf_number : Scope → ℕ → Read Expression
   leaf_number scope k = there (operand_of scope (token_at tokens k)) (Some k) Ok
 
-  -- a number in front of others, where the tree may be one
-  abbrev pub with_number : Bool → Read Expression → Read (List Expression) → Read (List Expression)
-  with_number true one others = one >>= λ e. before e others
-  with_number false one others = others
-
   -- a number, and the numbers among parts, from left to right
   unfoldable mutual
     pub number : Scope → Tree → Read Expression
@@ -143,12 +145,6 @@ module _ (tokens : List (Token × Span)) where
   unfoldable pub numbers_in : Scope → List Tree → Read (List Expression)
   numbers_in scope [] = Ok []
   numbers_in scope (t ∷ ts) = with_number (stands tokens scope Number t) (number scope t) (numbers_in scope ts)
-
-  -- `true` and `false`
-  abbrev pub truth_of : Bool → Bool → Option ℕ → Read Expression
-  truth_of true other place = Ok (truth true)
-  truth_of false true place = Ok (truth false)
-  truth_of false false place = Err place
 
   -- a condition: `true`, `false` or a comparison of two numbers
   abbrev pub condition_at : Scope → Tree → Tree-F Tree → Read Expression

@@ -33,6 +33,25 @@ Stated = Statement × Scope
 abbrev pub Sequence : Type 0
 Sequence = List Statement × Scope
 
+-- the form, where the parts are its own
+abbrev pub form_if : Bool → StatementForm → Option StatementForm
+form_if true form = Some form
+form_if false form = None
+
+-- a condition and the statement that it governs
+abbrev pub governed : (Expression → List Statement → Statement) → Read Expression → Read Sequence → Read Stated
+governed make test body = test >>= λ e. body >>= λ b. Ok (make e b.0, b.1)
+
+-- a statement in front of others, where the tree is one
+abbrev pub with_statement : Bool → Read Stated → (Scope → Read Sequence) → Scope → Read Sequence
+with_statement true one others scope = one >>= λ a. others a.1 >>= λ b. Ok (a.0 ∷ b.0, b.1)
+with_statement false one others scope = others scope
+
+-- an argument in front of others, where the tree is one
+abbrev pub with_argument : Bool → Read Expression → Read (List Expression) → Read (List Expression)
+with_argument true one others = one >>= λ e. others >>= λ es. Ok (e ∷ es)
+with_argument false one others = others
+
 module _ (tokens : List (Token × Span)) where
   -- what stands in a block behind its opening bracket: statements, and the closing bracket
   unfoldable pub are_inside : Scope → List Tree → Bool
@@ -75,18 +94,18 @@ module _ (tokens : List (Token × Span)) where
   is_governed word scope parts =
       stand tokens scope (Reserved word ∷ Sign open_round ∷ Condition ∷ Sign close_round ∷ AnyStatement ∷ []) parts
 
+  -- `;`
+  abbrev pub is_empty : Scope → List Tree → Bool
+  is_empty scope parts = stand tokens scope (Sign semicolon ∷ []) parts
+
   unfoldable pub simple_form : Bool → Scope → List Tree → Option StatementForm
   simple_form direct scope parts =
       if direct && is_declaration scope parts then Some Declaration
       else if is_evaluation scope parts then Some Evaluation else None
 
-  abbrev pub form_if : Bool → StatementForm → Option StatementForm
-  form_if true form = Some form
-  form_if false form = None
-
   -- what statement a node of a kind with these parts is, if it is one; a declaration is one only directly in a block
   unfoldable pub statement_form : Bool → Scope → NodeKind → List Tree → Option StatementForm
-  statement_form direct scope node.Empty parts = form_if (stand tokens scope (Sign semicolon ∷ []) parts) Empty
+  statement_form direct scope node.Empty parts = form_if (is_empty scope parts) Empty
   statement_form direct scope node.Block parts = form_if (is_block scope parts) Block
   statement_form direct scope node.Simple parts = simple_form direct scope parts
   statement_form direct scope node.If parts = form_if (is_governed words.If scope parts) If
@@ -100,10 +119,6 @@ module _ (tokens : List (Token × Span)) where
 
   unfoldable pub argument : Scope → Tree → Read Expression
   argument scope t = argument_at scope t (text_of (leaf tokens t))
-
-  abbrev pub with_argument : Bool → Read Expression → Read (List Expression) → Read (List Expression)
-  with_argument true one others = one >>= λ e. others >>= λ es. Ok (e ∷ es)
-  with_argument false one others = others
 
   -- the arguments among trees, from left to right
   unfoldable pub arguments : Scope → List Tree → Read (List Expression)
@@ -149,9 +164,12 @@ module _ (tokens : List (Token × Span)) where
   evaluation_of scope line place (Tree-F.Leaf k) = Err place
   evaluation_of scope line place (Tree-F.Node form parts) = evaluation_at scope line (node_kind form) parts place
 
+  abbrev pub evaluated : Scope → ℕ → Tree → Read Statement
+  evaluated scope line t = evaluation_of scope line (first t) (out-Tree t)
+
   unfoldable pub evaluation : Scope → ℕ → Option Tree → Read Statement
   evaluation scope line None = Err None
-  evaluation scope line (Some t) = evaluation_of scope line (first t) (out-Tree t)
+  evaluation scope line (Some t) = evaluated scope line t
 
   -- `int NAME = number ;`: a new local gets a value; its name is visible behind it
   unfoldable pub declaration : Scope → ℕ → List Tree → Option ℕ → Read Stated
@@ -163,10 +181,6 @@ module _ (tokens : List (Token × Span)) where
   condition_of scope None = Err None
   condition_of scope (Some t) = condition tokens scope t
 
-  -- a condition and the statement that it governs
-  abbrev pub governed : (Expression → List Statement → Statement) → Read Expression → Read Sequence → Read Stated
-  governed make test body = test >>= λ e. body >>= λ b. Ok (make e b.0, b.1)
-
   -- the statement that a node of a form is, given the statements among its parts, as those of a block and as governed ones
   abbrev pub stated : Option StatementForm → Scope → ℕ → Option ℕ → List Tree → (inside under : Read Sequence) → Read Stated
   stated None scope line place parts inside under = Err place
@@ -176,11 +190,6 @@ module _ (tokens : List (Token × Span)) where
   stated (Some Evaluation) scope line place parts inside under = evaluation scope line (slice_get parts 0) >>= λ s. Ok (s, scope)
   stated (Some If) scope line place parts inside under = governed (statements.If line) (condition_of scope (slice_get parts 2)) under
   stated (Some While) scope line place parts inside under = governed (statements.While line) (condition_of scope (slice_get parts 2)) under
-
-  -- a statement in front of others, where the tree is one
-  abbrev pub with_statement : Bool → Read Stated → (Scope → Read Sequence) → Scope → Read Sequence
-  with_statement true one others scope = one >>= λ a. others a.1 >>= λ b. Ok (a.0 ∷ b.0, b.1)
-  with_statement false one others scope = others scope
 
   -- a statement, and the statements among parts, one behind another; directly in a block they may be declarations
   unfoldable mutual

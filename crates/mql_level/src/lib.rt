@@ -11,4 +11,4 @@ mod sign;
 mod statement;
 mod word;
 
-pub use level::LevelFault;
+pub use level::{LevelFault, read_level};
