@@ -150,9 +150,7 @@ pub fn stands(tokens: &[(Token, Span)], scope: &Scope, part: Part, tree: &Tree) 
             is_node(tree) || is_operand(tokens, scope, tree) || text_of(tokens, tree).is_some()
         }
         Part::Condition => {
-            is_node(tree)
-                || is_word(tokens, Word::True, tree)
-                || is_word(tokens, Word::False, tree)
+            is_node(tree) || is_word(tokens, Word::True, tree) || is_word(tokens, Word::False, tree)
         }
         Part::NewName => is_new(tokens, scope, tree),
         Part::LocalName => local_of(tokens, scope, tree).is_some(),

@@ -23,7 +23,7 @@ sequence-loop-tree-preserved t c =
     let next = from_place c.args.trees.now c.loop-tree.tree-index c.tree-item.result c.loop-tree-test.true c.tree-item.is in
     let inv = c.loop-tree.invariant ∙ ap (λ l. following c.loop-tree.found (sequence_in c.args.tokens.now c.args.direct c.loop-tree.behind l)) next in
     elim c.if-is_statement.branch [
-        sequence-then-is_statement+in_ok-one+in_ok-push w ↦
+      | sequence-then-is_statement+in_ok-one+in_ok-push w ↦
           inv
           ∙ statement_more c.args.tokens.now c.args.direct c.loop-tree.behind c.loop-tree.found c.tree-item.result (drop (c.loop-tree.tree-index + 1) c.args.trees.now) (w.in_ok-one.one, w.in_ok-one.next) (sym w.if-is_statement.true ∙ c.is_statement.ensures) w.in_ok-one.ensures
           ∙ ap (λ ss. following ss (sequence_in c.args.tokens.now c.args.direct w.in_ok-one.next (drop (c.loop-tree.tree-index + 1) c.args.trees.now))) (sym (w.found-is ∙ w.in_ok-push.ensures.ok))

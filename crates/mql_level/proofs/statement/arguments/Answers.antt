@@ -22,7 +22,7 @@ loop-tree-preserved c =
     let next = from_place c.args.trees.now c.loop-tree.tree-index c.tree-item.result c.loop-tree-test.true c.tree-item.is in
     let inv = c.loop-tree.invariant ∙ ap (λ l. ahead c.loop-tree.found (arguments c.args.tokens.now c.args.scope.now l)) next in
     elim c.if-stands.branch [
-        then-stands+in_ok-argument+in_ok-push w ↦
+      | then-stands+in_ok-argument+in_ok-push w ↦
           inv
           ∙ argument_more c.args.tokens.now c.args.scope.now c.loop-tree.found c.tree-item.result (drop (c.loop-tree.tree-index + 1) c.args.trees.now) w.in_ok-argument.field-0 (sym w.if-stands.true ∙ c.stands.ensures) w.in_ok-argument.ensures
           ∙ ap (λ es. ahead es (arguments c.args.tokens.now c.args.scope.now (drop (c.loop-tree.tree-index + 1) c.args.trees.now))) (sym (w.found-is ∙ w.in_ok-push.ensures.ok))
