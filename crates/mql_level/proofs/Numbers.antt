@@ -20,7 +20,7 @@ use Rattle.mql_level.proofs.Rows.{row_of, parts_of}
 use Rattle.mql_level.proofs.Answers.{err_on, ahead, ahead_more}
 
 module _ (tokens : List (Token × Span)) (scope : Scope) where
-  numbers_row : (n : _) (row : Row_of-Tree n) → numbers tokens scope row ≡ numbers_in tokens scope (list_of row)
+  pub numbers_row : (n : _) (row : Row_of-Tree n) → numbers tokens scope row ≡ numbers_in tokens scope (list_of row)
   unfolding numbers numbers_in
   numbers_row n end_of-Tree = refl
   numbers_row n (more_of-Tree t ts) = ap (with_number (stands tokens scope part.Number t) (number tokens scope t)) (numbers_row _ ts)

@@ -1,5 +1,6 @@
 //! The program that a tree of the first level is.
 ghost use Rattle.std.specs.Prelude.{◌≡◌, IfOk, slice_get};
+ghost use Rattle.mql_mean.specs.Types.{Types};
 ghost use Rattle.mql_level.specs.Read.{Answers};
 ghost use Rattle.mql_level.specs.Level.{ints, program_of, all_nodes, block, body, is_on_tick, on_tick, items, program_items, program};
 
@@ -221,6 +222,7 @@ fn read_items(
 #[tactic(auto, unfolding(crate::specs::Level::program))]
 pub fn read_level(alloc: Global, tokens: &Tokens, tree: &Tree) -> Result<Checked, LevelFault>
     ensures exact { Answers result (program tokens.now tree.now) }
+    ensures typed { IfOk result Types }
 {
     let (body, scope) = read_items(alloc, tokens.as_slice(), tree)?;
     let checked = program_of(alloc, body, &scope)?;
