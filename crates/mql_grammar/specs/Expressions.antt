@@ -10,33 +10,39 @@ use Rattle.mql_grammar.specs.declared.token_class.Class.TheVariants as class
 use Rattle.mql_grammar.specs.declared.node_form.Form.{Form}
 use Rattle.mql_grammar.specs.declared.node_form.Form.TheVariants as form
 
--- a token of a class, a token of one of some classes, a node of a form, a node of one of some forms, one of both
+-- a token of this class
 abbrev pub a : Class → Expression
 a c = part (class_number c ∷ []) []
 
+-- a token of one of these classes
 abbrev pub a_token : List Class → Expression
 a_token cs = part (map class_number cs) []
 
+-- a node of this form
 abbrev pub a_node : Form → Expression
 a_node f = part [] (form_number f ∷ [])
 
+-- one of both
 abbrev pub one : List Class → List Form → Expression
 one cs fs = part (map class_number cs) (map form_number fs)
 
--- these in order, one of these, one or none, one or more with commas between
+-- these in order
 abbrev pub in_order : List Expression → Expression
 in_order [] = nothing
 in_order (e ∷ []) = e
 in_order (e ∷ f ∷ es) = seq e (in_order (f ∷ es))
 
+-- one of these
 abbrev pub one_of : List Expression → Expression
 one_of [] = never
 one_of (e ∷ []) = e
 one_of (e ∷ f ∷ es) = either e (one_of (f ∷ es))
 
+-- one or none
 abbrev pub maybe : Expression → Expression
 maybe e = either nothing e
 
+-- one or more, with commas between
 abbrev pub list_of : Expression → Expression
 list_of e = in_order (e ∷ many (in_order (a class.Comma ∷ e ∷ [])) ∷ [])
 
@@ -90,16 +96,19 @@ level_14 = level_13 ++ form.Assignment ∷ []
 abbrev pub primaries : List Class
 primaries = class.Name ∷ class.FunctionTemplate ∷ class.Literal ∷ class.Zero ∷ class.String ∷ class.This ∷ []
 
--- a value of a level; where a value may stand, the word of a type may too, which `(`, `::` or `<` behind it makes a node of
+-- a value of a level, before its operator
 abbrev pub operand : List Form → Expression
 operand level = one primaries level
 
+-- a value of a level; where it may stand, the word of a type may too, which `(`, `::` or `<` behind it makes a node of
 abbrev pub value : List Form → Expression
 value level = one_of (operand level ∷ stub (map class_number (class.TypeName ∷ class.ClassTemplate ∷ class.SimpleType ∷ [])) ∷ [])
 
+-- expr
 abbrev pub expr : Expression
 expr = value level_14
 
+-- list = expr {"," expr}, and args
 abbrev pub args : Expression
 args = list_of expr
 
@@ -107,9 +116,11 @@ args = list_of expr
 abbrev pub names : List Class
 names = class.Name ∷ class.TypeName ∷ class.FunctionTemplate ∷ class.ClassTemplate ∷ []
 
+-- NAME
 abbrev pub name : Expression
 name = a_token names
 
+-- type
 abbrev pub type_name : Expression
 type_name = one (class.TypeName ∷ class.ClassTemplate ∷ class.SimpleType ∷ class.Void ∷ []) (form.GenericType ∷ [])
 
@@ -125,32 +136,39 @@ init = one_of (expr ∷ a_node form.Braces ∷ [])
 abbrev pub dims : Expression
 dims = many (in_order (a class.OpenBracket ∷ maybe expr ∷ a class.CloseBracket ∷ []))
 
+-- ["=" init]
 abbrev pub initial : Expression
 initial = maybe (in_order (a class.Assign ∷ init ∷ []))
 
+-- ["=" expr]
 abbrev pub given : Expression
 given = maybe (in_order (a class.Assign ∷ expr ∷ []))
 
--- var = ["*"] [NAME "::"] NAME {"[" [expr] "]"} ["=" init | "(" [args] ")"]
+-- var = ["*"] [NAME "::"] NAME {"[" [expr] "]"} ["=" init | "(" [args] ")"]: what comes behind the name
 abbrev pub var_end : Expression
 var_end = one_of (in_order (dims ∷ initial ∷ []) ∷ in_order (a class.OpenParen ∷ maybe args ∷ a class.CloseParen ∷ []) ∷ [])
 
+-- [NAME "::"] NAME
 abbrev pub var_name : Expression
 var_name = one_of (name ∷ in_order (name ∷ a class.DoubleColon ∷ name ∷ []) ∷ [])
 
+-- one variable
 abbrev pub var : Expression
 var = in_order (maybe (a class.Star) ∷ var_name ∷ var_end ∷ [])
 
+-- {"," var}
 abbrev pub more_vars : Expression
 more_vars = many (in_order (a class.Comma ∷ var ∷ []))
 
+-- var {"," var}
 abbrev pub vars : Expression
 vars = in_order (var ∷ more_vars ∷ [])
 
--- param = ["const"] type ["*"] ["&"] NAME {"[" [expr] "]"} ["=" expr]
+-- param = ["const"] type ["*"] ["&"] NAME {"[" [expr] "]"} ["=" expr]: what comes behind the type
 abbrev pub param_end : Expression
 param_end = in_order (maybe (a class.Star) ∷ maybe (a class.Ampersand) ∷ name ∷ dims ∷ given ∷ [])
 
+-- one parameter
 abbrev pub param : Expression
 param = in_order (maybe (a class.Const) ∷ type_name ∷ param_end ∷ [])
 
@@ -171,6 +189,7 @@ params_on = one_of (
     in_order (a class.Void ∷ a class.CloseParen ∷ function_end ∷ []) ∷
     in_order (param ∷ in_order (many (in_order (a class.Comma ∷ param ∷ [])) ∷ a class.CloseParen ∷ function_end ∷ []) ∷ []) ∷ [])
 
+-- "(" params ")" and what comes behind
 abbrev pub function_only : Expression
 function_only = in_order (a class.OpenParen ∷ params_on ∷ [])
 
@@ -178,9 +197,11 @@ function_only = in_order (a class.OpenParen ∷ params_on ∷ [])
 abbrev pub rest_of_vars : Expression
 rest_of_vars = in_order (more_vars ∷ a class.Semicolon ∷ [])
 
+-- variables go on
 abbrev pub vars_on : Expression
 vars_on = in_order (dims ∷ initial ∷ rest_of_vars ∷ [])
 
+-- variables or a function go on
 abbrev pub either_on : Expression
 either_on = in_order (a class.OpenParen ∷ one_of (
     params_on ∷
@@ -197,6 +218,7 @@ typed = in_order (type_name ∷ maybe (a class.Star) ∷ one_of (
     in_order (a class.Tilde ∷ name ∷ function_only ∷ []) ∷ []) ∷ []) ∷ []) ∷ []) ∷
     in_order (a class.Tilde ∷ name ∷ function_only ∷ []) ∷ []) ∷ [])
 
+-- type var {"," var} ";"
 abbrev pub typed_vars : Expression
 typed_vars = in_order (type_name ∷ vars ∷ a class.Semicolon ∷ [])
 
@@ -204,18 +226,23 @@ typed_vars = in_order (type_name ∷ vars ∷ a class.Semicolon ∷ [])
 abbrev pub function_name : Expression
 function_name = in_order (maybe (a class.Tilde) ∷ name ∷ [])
 
+-- [NAME "::"]
 abbrev pub scoped : Expression
 scoped = maybe (in_order (name ∷ a class.DoubleColon ∷ []))
 
+-- a function that has a type
 abbrev pub typed_function : Expression
 typed_function = in_order (type_name ∷ maybe (a class.Star) ∷ scoped ∷ function_name ∷ function_only ∷ [])
 
+-- a function that has none
 abbrev pub untyped : Expression
 untyped = in_order (scoped ∷ function_name ∷ function_only ∷ [])
 
+-- variables or a function
 abbrev pub both_kinds : Expression
 both_kinds = one_of (typed ∷ untyped ∷ [])
 
+-- a function
 abbrev pub function : Expression
 function = one_of (typed_function ∷ untyped ∷ [])
 
@@ -280,9 +307,11 @@ member_parts = one_of (
 abbrev pub statement : Expression
 statement = one [] (form.Block ∷ form.Empty ∷ form.Simple ∷ form.If ∷ form.While ∷ form.Do ∷ form.For ∷ form.Switch ∷ form.Break ∷ form.Continue ∷ form.Return ∷ form.Delete ∷ [])
 
+-- "{" {stmt} "}"
 abbrev pub block_parts : Expression
 block_parts = in_order (a class.OpenBrace ∷ many statement ∷ a class.CloseBrace ∷ [])
 
+-- ";"
 abbrev pub empty_parts : Expression
 empty_parts = a class.Semicolon
 
@@ -290,6 +319,7 @@ empty_parts = a class.Semicolon
 abbrev pub local_or_list : Expression
 local_or_list = one_of (in_order (many (a_token (class.Static ∷ class.Const ∷ [])) ∷ type_name ∷ vars ∷ []) ∷ args ∷ [])
 
+-- local ";" or list ";"
 abbrev pub simple_parts : Expression
 simple_parts = in_order (local_or_list ∷ a class.Semicolon ∷ [])
 
@@ -314,15 +344,19 @@ abbrev pub switch_parts : Expression
 switch_parts = in_order (a class.Switch ∷ a class.OpenParen ∷ expr ∷ a class.CloseParen ∷ a class.OpenBrace ∷ many (one_of (
     in_order (a class.Case ∷ expr ∷ a class.Colon ∷ []) ∷ in_order (a class.Default ∷ a class.Colon ∷ []) ∷ statement ∷ [])) ∷ a class.CloseBrace ∷ [])
 
+-- "break" ";"
 abbrev pub break_parts : Expression
 break_parts = in_order (a class.Break ∷ a class.Semicolon ∷ [])
 
+-- "continue" ";"
 abbrev pub continue_parts : Expression
 continue_parts = in_order (a class.Continue ∷ a class.Semicolon ∷ [])
 
+-- "return" [expr] ";"
 abbrev pub return_parts : Expression
 return_parts = in_order (a class.Return ∷ maybe expr ∷ a class.Semicolon ∷ [])
 
+-- "delete" expr ";"
 abbrev pub delete_parts : Expression
 delete_parts = in_order (a class.Delete ∷ expr ∷ a class.Semicolon ∷ [])
 
@@ -352,16 +386,19 @@ new_parts = in_order (a class.New ∷ type_name ∷ maybe (in_order (a_token (cl
 abbrev pub dynamic_cast_parts : Expression
 dynamic_cast_parts = in_order (a class.DynamicCast ∷ a class.Less ∷ type_name ∷ a class.Star ∷ a class.Greater ∷ a class.OpenParen ∷ expr ∷ a class.CloseParen ∷ [])
 
--- level 1: the postfix forms
+-- level 1, the postfix forms: a member
 abbrev pub member_access_parts : Expression
 member_access_parts = in_order (operand level_1 ∷ a class.Dot ∷ name ∷ [])
 
+-- an element
 abbrev pub index_parts : Expression
 index_parts = in_order (operand level_1 ∷ a class.OpenBracket ∷ expr ∷ a class.CloseBracket ∷ [])
 
+-- a call
 abbrev pub call_parts : Expression
 call_parts = in_order (operand level_1 ∷ a class.OpenParen ∷ maybe args ∷ a class.CloseParen ∷ [])
 
+-- ++ and -- behind a value
 abbrev pub postfix_parts : Expression
 postfix_parts = in_order (operand level_1 ∷ a class.Increment ∷ [])
 

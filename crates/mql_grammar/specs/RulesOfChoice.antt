@@ -37,6 +37,7 @@ may_follow h c = follows mql_follow h c
 unfoldable pub is_chosen : ℕ → ℕ → Bool
 is_chosen f c = ruled rules_of_choice f c
 
+-- the rules of choice of the grammar, with what may follow
 abbrev pub choices : Follow
 choices = record { owner = dot_form; may = may_follow; rule = is_chosen }
 
