@@ -1,0 +1,6 @@
+pub mod Entering
+pub mod Parts
+pub mod Putting
+pub mod Reading
+pub mod Settling
+pub mod Wrapping

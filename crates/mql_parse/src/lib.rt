@@ -1,0 +1,10 @@
+//! The parser: from tokens to the tree of the grammar.
+#![tactic(auto)]
+
+mod engine;
+mod fault;
+mod frame;
+mod reader;
+
+pub use fault::ParseFault;
+pub use reader::{DEPTH_LIMIT, NODE_LIMIT};
