@@ -3,4 +3,5 @@ pub mod Parts
 pub mod Putting
 pub mod Reading
 pub mod Settling
+pub mod Wording
 pub mod Wrapping

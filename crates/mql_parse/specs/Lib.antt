@@ -1,3 +1,4 @@
 pub mod Opened
 pub mod Parsed
 pub mod View
+pub mod Words

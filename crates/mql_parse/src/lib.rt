@@ -5,6 +5,7 @@ mod engine;
 mod fault;
 mod frame;
 mod reader;
+mod word;
 
 pub use fault::ParseFault;
 pub use reader::{DEPTH_LIMIT, NODE_LIMIT};
