@@ -1,4 +1,5 @@
 pub mod Entering
+pub mod Naming
 pub mod Parts
 pub mod Putting
 pub mod Reading

@@ -1,9 +1,11 @@
 //! The parser: from tokens to the tree of the grammar.
 #![tactic(auto)]
 
+mod classify;
 mod engine;
 mod fault;
 mod frame;
+mod names;
 mod reader;
 mod word;
 
