@@ -1,5 +1,6 @@
 pub mod Entering
 pub mod Naming
+pub mod Parsing
 pub mod Parts
 pub mod Putting
 pub mod Reading

@@ -113,11 +113,15 @@ heading_on heading.Class c = heading.Outside
 abbrev pub heading_after : Heading → Class → Heading
 heading_after h c = if same c class.Template then heading.Parameters else heading_on h c
 
--- the role that a name has by what stands before it: behind `class`, `struct`, `interface`, `enum` and `typename` it is a type, in the heading
--- of a template a template
-abbrev pub role_behind : Heading → Class → Role
-role_behind heading.Class before = role.ClassTemplate
-role_behind h before = if same before class.Kind || same before class.Enum || same before class.Typename then role.Type else role.Plain
+-- what a name is declared as, by what stands before it: behind `class`, `struct`, `interface`, `enum` and `typename` a type, in the heading of a
+-- template a template
+abbrev pub role_behind : Heading → Class → Option Role
+role_behind heading.Class before = Some role.ClassTemplate
+role_behind h before = if same before class.Kind || same before class.Enum || same before class.Typename then Some role.Type else None
+
+abbrev pub told : (List ℕ → Role) → List ℕ → Option Role → List ℕ → Role
+told roles name None = roles
+told roles name (Some r) = declared roles name r
 
 -- the name before a function's `(` in the heading of a template is a template's
 abbrev pub is_declaration : Heading → Bool
@@ -128,8 +132,8 @@ abbrev pub opens_function : Heading → Class → Bool
 opens_function h c = is_declaration h && same c class.OpenParen
 
 abbrev pub roles_after : Context → Token → Class → List ℕ → Role
-roles_after x (token.Name name) c = if is_name c then declared x.roles name (role_behind x.heading x.before) else x.roles
-roles_after x (token.Sign number) c = if opens_function x.heading c then declared x.roles x.name role.FunctionTemplate else x.roles
+roles_after x (token.Name name) c = told x.roles name (if is_name c then role_behind x.heading x.before else None)
+roles_after x (token.Sign number) c = told x.roles x.name (if opens_function x.heading c then Some role.FunctionTemplate else None)
 roles_after x t c = x.roles
 
 abbrev pub name_of : Token → Class → List ℕ

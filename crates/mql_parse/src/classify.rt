@@ -1,8 +1,9 @@
 //! The class of each token, by the tokens before it.
-ghost use Rattle.std.specs.Prelude.{◌≡◌, ℕ, List, IfOk, bytes_eq, codes};
+ghost use Rattle.std.specs.Prelude.{◌≡◌, ℕ, List, Some, None, IfOk, if◌then◌else◌};
 ghost use Rattle.mql_parse.specs.Words as words;
 ghost use Rattle.mql_parse.specs.Roles.{role_in, context_of};
-ghost use Rattle.mql_parse.specs.Classes.{Context, same, is_name, in_parameters, is_group, is_typename, plain_name_class, name_class, behind, is_int, int_class, ends_declaration, heading_on, heading_after, role_behind, is_declaration, opens_function, name_of, after, classes_of};
+ghost use Rattle.mql_parse.specs.Classes.{Context, same, is_name, in_parameters, is_group, is_typename, plain_name_class, name_class, behind, is_int, int_class, ends_declaration, heading_on, heading_after, role_behind, told, is_declaration, opens_function, name_of, after, classes_of};
+ghost use Rattle.mql_parse.specs.declared.names.Role.TheVariants.{FunctionTemplate};
 ghost use Rattle.mql_parse.specs.Classes as classes;
 
 use crate::names::{Role, Roles, declare, role_in};
@@ -179,19 +180,19 @@ fn heading_after(heading: Heading, class: Class) -> Heading
 }
 
 /// What a name is declared as behind a token of a class.
-fn role_behind(heading: Heading, before: Class) -> Role
+fn role_behind(heading: Heading, before: Class) -> Option<Role>
     ensures { result ≡ role_behind heading before }
 {
     match heading {
-        Heading::Class => Role::ClassTemplate,
+        Heading::Class => Some(Role::ClassTemplate),
         _ => {
             if same(before, Class::Kind)
                 || same(before, Class::Enum)
                 || same(before, Class::Typename)
             {
-                Role::Type
+                Some(Role::Type)
             } else {
-                Role::Plain
+                None
             }
         }
     }
@@ -203,6 +204,42 @@ fn opens_function(heading: Heading, class: Class) -> bool
     match heading {
         Heading::Declaration => same(class, Class::OpenParen),
         _ => false,
+    }
+}
+
+/// The roles, with one more where a name is told to have one.
+fn told<'a>(
+    roles: Roles<'a>,
+    name: &'a [u16],
+    role: Option<Role>,
+) -> Result<Roles<'a>, OutOfMemory>
+    ensures { IfOk result (λ m. (q : List ℕ) → role_in m q ≡ told (role_in roles.entry) name.now role q) }
+{
+    match role {
+        None => Ok(roles),
+        Some(role) => declare(roles, name, role),
+    }
+}
+
+/// What a name token is declared as.
+fn role_of_name(seen: &Seen<'_>, class: Class) -> Option<Role>
+    ensures { result ≡ (if is_name class then role_behind seen.now.heading seen.now.before else None) }
+{
+    if is_name(class) {
+        role_behind(seen.heading, seen.before)
+    } else {
+        None
+    }
+}
+
+/// What the name before a sign is declared as.
+fn role_of_function(seen: &Seen<'_>, class: Class) -> Option<Role>
+    ensures { result ≡ (if opens_function seen.now.heading class then Some FunctionTemplate else None) }
+{
+    if opens_function(seen.heading, class) {
+        Some(Role::FunctionTemplate)
+    } else {
+        None
     }
 }
 
@@ -238,4 +275,50 @@ fn token_class(seen: &Seen<'_>, token: &Token) -> Class
         Token::IncludeName(_) => Class::Refused,
         Token::LineEnd => Class::Refused,
     }
+}
+
+/// What is kept behind a token of a class.
+fn advance<'a>(seen: Seen<'a>, token: &'a Token, class: Class) -> Result<Seen<'a>, OutOfMemory>
+    ensures { IfOk result (λ x. context_of x ≡ after (context_of seen.entry) token.now class) }
+{
+    let heading = heading_after(seen.heading, class);
+    let name = name_of(token, class);
+    let roles = match token {
+        Token::Name(here) => {
+            let role = role_of_name(&seen, class);
+            told(seen.roles, here.as_slice(), role)?
+        }
+        Token::Sign(_) => {
+            let role = role_of_function(&seen, class);
+            told(seen.roles, seen.name, role)?
+        }
+        _ => seen.roles,
+    };
+    Ok(Seen {
+        roles,
+        before: class,
+        name,
+        heading,
+    })
+}
+
+/// The classes of tokens.
+pub(crate) fn classify(alloc: Global, tokens: &Tokens) -> Result<ItemList<Class>, OutOfMemory>
+    ensures { IfOk result (λ list. list ≡ classes_of tokens.now) }
+{
+    let mut classes = ItemList::new(alloc);
+    let mut seen = Seen {
+        roles: BTreeMap::new(alloc),
+        before: Class::EndMark,
+        name: &[],
+        heading: Heading::Outside,
+    };
+    let mut rest = tokens.as_slice();
+    while let [token, others @ ..] = rest {
+        let class = token_class(&seen, &token.0);
+        classes.push(class)?;
+        seen = advance(seen, &token.0, class)?;
+        rest = others;
+    }
+    Ok(classes)
 }

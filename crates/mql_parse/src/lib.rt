@@ -6,8 +6,10 @@ mod engine;
 mod fault;
 mod frame;
 mod names;
+mod parser;
 mod reader;
 mod word;
 
 pub use fault::ParseFault;
+pub use parser::{classes_by_those_before, one_tree, parse};
 pub use reader::{DEPTH_LIMIT, NODE_LIMIT};
