@@ -1,6 +1,6 @@
 -- Opening the nodes that a token begins.
-use Rattle.std.proofs.Common.{◌≡◌, ℕ, suc, Bool, true, false, ◌+◌, ◌≤◌, ◌<◌, List, [], ◌∷◌, Option, Some, None, length, refl, ap, sym, ◌∙◌, subst, arith}
-use Rattle.mql_grammar.specs.Forms.{Spine, State, leaf, node, add, dot, open_along}
+use Rattle.std.proofs.Common.{◌≡◌, ℕ, suc, true, false, ◌+◌, ◌≤◌, ◌<◌, List, [], ◌∷◌, Option, Some, None, length, refl, ap, sym, ◌∙◌, subst, arith}
+use Rattle.mql_grammar.specs.Forms.{State, dot, open_along}
 use Rattle.mql_grammar.specs.Rules.{dot_path, form_start}
 use Rattle.mql_grammar.specs.Steps.{opening_of}
 use Rattle.mql_grammar.specs.Table.{is_lead, path_of}
@@ -10,7 +10,7 @@ use Rattle.mql_grammar.specs.declared.lookup.Opening.TheVariants.{Nothing, Part,
 use Rattle.mql_grammar.proofs.Lookups.{path_short, opens_onward}
 use Rattle.mql_parse.specs.declared.engine.Open.{Open}
 use Rattle.mql_parse.specs.View.{class_at, over}
-use Rattle.mql_parse.specs.Opened.{takes_at, path_at, IsOpening, frame_spine, Sound, Kept, stack, now_of, opened_state, shifted_state, IsNow}
+use Rattle.mql_parse.specs.Opened.{takes_at, path_at, IsOpening, frame_spine, Kept, stack, now_of, opened_state, shifted_state, IsNow}
 
 -- what is left to open of a token's path
 abbrev pub along : List Class → ℕ → Open → State
@@ -52,9 +52,9 @@ enters_more ts k f class first o o' e opens kept now deep many =
       kept = kept;
       takes = g.takes;
       same =
-        ap (λ (x : State). open_along (path_at o'.top.dot (class_at ts k)) k x.top x.below) now
-        ∙ sym (ap (λ (p : List ℕ). open_along p k (frame_spine o.top) (stack o.below)) g.path)
-        ∙ e.same;
+          ap (λ (x : State). open_along (path_at o'.top.dot (class_at ts k)) k x.top x.below) now
+          ∙ sym (ap (λ (p : List ℕ). open_along p k (frame_spine o.top) (stack o.below)) g.path)
+          ∙ e.same;
       deep = omega (arith, e.deep);
       many = omega (arith, e.many);
       class_is = e.class_is;

@@ -1,7 +1,7 @@
 -- The whole of the tokens.
 use Rattle.std.proofs.Common.{◌≡◌, ℕ, suc, Bool, true, false, cond, nat_lt, ◌+◌, ◌-◌, ◌≤◌, ◌<◌, List, [], ◌∷◌, ◌++◌, Option, Some, None, Result, length, map, refl, ap, sym, ◌∙◌, subst, arith}
 use Rattle.std.specs.Prelude.{IsTrue, ◌↔◌}
-use Rattle.mql_grammar.specs.Forms.{Grammar, Spine, State, leaf, node, add, step, depth_of, count_of}
+use Rattle.mql_grammar.specs.Forms.{Spine, State, leaf, node, add, step, depth_of, count_of}
 use Rattle.mql_grammar.specs.Exact.{Answer, tree, fault, syntax_at, depth_at, nodes_at}
 use Rattle.mql_grammar.specs.Rules.{program, file_limits}
 use Rattle.mql_grammar.specs.Parse.{begin, unmark, end_of, parse_after, parse_on}
@@ -52,9 +52,12 @@ minus_zero n = omega arith
 pub reads_init : (ts : List Class) (o : Open) → Kept ts o → now_of o ≡ begin (program) → o.depth ≤ 200 → o.nodes ≤ 200000 → Reads ts 0 o
 unfolding answer
 reads_init ts o kept now deep many = record {
-    kept = kept; within = omega arith; deep = deep; many = many;
-    same = ap (λ (n : ℕ). parse_on (over ts) (length ts) file_limits 0 (places_from 0 n) (now_of o)) (minus_zero (length ts)) ∙ ap (parse_on (over ts) (length ts) file_limits 0 (places_from 0 (length ts))) now;
-  }
+  kept = kept;
+  within = omega arith;
+  deep = deep;
+  many = many;
+  same = ap (λ (n : ℕ). parse_on (over ts) (length ts) file_limits 0 (places_from 0 n) (now_of o)) (minus_zero (length ts)) ∙ ap (parse_on (over ts) (length ts) file_limits 0 (places_from 0 (length ts))) now;
+}
 
 pub reads_on : (ts : List Class) (k : ℕ) (o : Open) → Reads ts k o → k < length ts → parse_after (step (over ts) k (now_of o)) file_limits k (from_on ts (k + 1)) ≡ answer ts
 reads_on ts k o r h = sym (ap (λ (ks : List ℕ). parse_on (over ts) (length ts) file_limits k ks (now_of o)) (from_more k (length ts) h)) ∙ r.same
@@ -85,9 +88,12 @@ reads_many ts k o o' r h e small many =
 
 pub reads_more : (ts : List Class) (k : ℕ) (o o' : Open) → Reads ts k o → k < length ts → (step (over ts) k (now_of o) ≡ Some (now_of o')) × Kept ts o' → o'.depth ≤ 200 → o'.nodes ≤ 200000 → Reads ts (k + 1) o'
 reads_more ts k o o' r h e small few = record {
-    kept = e.1; within = omega arith; deep = small; many = few;
-    same = sym (past_depth ts k o o' r h e small ∙ ap (λ (b : Bool). cond b (fault (nodes_at k)) (from_on ts (k + 1) (now_of o'))) (lt_false 200000 (count_of (now_of o')) (subst (λ (n : ℕ). n ≤ 200000) e.1.many few)));
-  }
+  kept = e.1;
+  within = omega arith;
+  deep = small;
+  many = few;
+  same = sym (past_depth ts k o o' r h e small ∙ ap (λ (b : Bool). cond b (fault (nodes_at k)) (from_on ts (k + 1) (now_of o'))) (lt_false 200000 (count_of (now_of o')) (subst (λ (n : ℕ). n ≤ 200000) e.1.many few)));
+}
 
 none_left : (k n : ℕ) → k ≡ n → n - k ≡ 0
 none_left k n e = omega arith
@@ -120,6 +126,7 @@ stack_some xs s not = some_on xs [] not
     on_more : (q : Spine) (s : List Spine) (xs : List Frame) → (a : Spine) × (r : List Spine) × (stack_on (q ∷ s) xs ≡ a ∷ r)
     on_more q s [] = (q, s, refl)
     on_more q s (x ∷ xs) = on_more (frame_spine x) (q ∷ s) xs
+
     some_on : (xs : List Frame) (s : List Spine) → (xs ≡ [] → ⊥) → (a : Spine) × (r : List Spine) × (stack_on s xs ≡ a ∷ r)
     some_on [] s not = absurd (not refl)
     some_on (x ∷ xs) s not = on_more (frame_spine x) s xs

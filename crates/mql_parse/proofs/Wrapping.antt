@@ -1,12 +1,12 @@
 -- A node opened around the last part.
-use Rattle.std.proofs.Common.{◌≡◌, ℕ, suc, Bool, true, false, ◌||◌, max, ◌+◌, ◌≤◌, ◌<◌, List, [], ◌∷◌, ◌++◌, length, map, refl, ap, sym, ◌∙◌, subst, arith}
-use Rattle.mql_grammar.specs.Forms.{Spine, State, leaf, node, add, depth, count, joined, depth_of, count_of, taken, wrapped, wrap_last}
+use Rattle.std.proofs.Common.{◌≡◌, ℕ, suc, Bool, true, false, ◌||◌, max, ◌+◌, ◌≤◌, List, [], ◌∷◌, ◌++◌, length, map, ap, sym, ◌∙◌, subst, arith}
+use Rattle.mql_grammar.specs.Forms.{Spine, leaf, node, add, depth, count, joined, depth_of, count_of, taken, wrapped, wrap_last}
 use Rattle.mql_grammar.specs.declared.token_class.Class.{Class}
 use Rattle.mql_parse.specs.declared.frame.Frame.{Frame}
 use Rattle.mql_parse.specs.declared.engine.Open.{Open}
 use Rattle.mql_tree.specs.declared.token.Tree.{Tree}
 use Rattle.mql_parse.specs.View.{with_parts, spine_of, over}
-use Rattle.mql_parse.specs.Opened.{takes_at, frame_spine, Placed, Sound, Behind, AllPlaced, Kept, stack, now_of, IsNow}
+use Rattle.mql_parse.specs.Opened.{takes_at, frame_spine, Sound, Behind, Kept, stack, now_of, IsNow}
 use Rattle.mql_parse.proofs.Parts.{part_seen}
 use Rattle.mql_parse.proofs.Settling.{deep_below}
 use Rattle.mql_parse.proofs.Putting.{level, total, joined_level, joined_total, state_same, all_pushed, stack_pushed, stack_length, pushed_length, below_deep}
@@ -72,24 +72,25 @@ wrap_done ts f k o o' parent fresh one part len kept w =
     let behind = kept.top.back _ _ here in
     let now : now_of o' ≡ record { top = add (add (node f) (spine_of part)) (leaf k); below = frame_spine parent ∷ stack o.below } = state_same _ _ _ _ (w.top_is ∙ ap (λ x. add x (leaf k)) (w.one_is ∙ ap (λ x. add x (spine_of part)) w.fresh_is)) (stack_pushed o.below o'.below parent w.pushed) in
     let before : depth (joined (frame_spine o.top) (stack o.below)) ≡ depth (joined (add (frame_spine parent) (spine_of part)) (stack o.below)) = ap (λ x. depth (joined x (stack o.below))) here in
-    let counted : count (joined (frame_spine o.top) (stack o.below)) ≡ count (joined (add (frame_spine parent) (spine_of part)) (stack o.below)) = ap (λ x. count (joined x (stack o.below))) here in
-    (now ∙ sym (ap (λ x. wrap_last f k x (stack o.below)) here),
-     record {
-       top = w.sound;
-       below = all_pushed ts o.below o'.below parent w.pushed kept.below (record { dot = w.dot ∙ behind.prior; deep = w.deep_same ∙ behind.prior_deep });
-       deep =
-         w.deep
-         ∙ ap (λ n. max o.depth (n + 1 + o.top.last_depth)) (w.len_is ∙ pushed_length o.below o'.below parent w.pushed ∙ ap (λ n. n + 1) (sym (stack_length o.below)))
-         ∙ ap (λ n. max o.depth (length (stack o.below) + 1 + 1 + n)) behind.last_deep
-         ∙ ap (λ n. max n (length (stack o.below) + 1 + 1 + depth (spine_of part))) (kept.deep ∙ before)
-         ∙ sym (wrapped_deep f k (frame_spine parent) (spine_of part) (stack o.below))
-         ∙ sym (ap depth_of now);
-       many =
-         w.many
-         ∙ ap (λ n. n + 1) (kept.many ∙ counted)
-         ∙ sym (wrapped_many f k (frame_spine parent) (spine_of part) (stack o.below))
-         ∙ sym (ap count_of now);
-     })
+    let counted : count (joined (frame_spine o.top) (stack o.below)) ≡ count (joined (add (frame_spine parent) (spine_of part)) (stack o.below)) = ap (λ x. count (joined x (stack o.below))) here in (
+      now ∙ sym (ap (λ x. wrap_last f k x (stack o.below)) here),
+      record {
+        top = w.sound;
+        below = all_pushed ts o.below o'.below parent w.pushed kept.below (record { dot = w.dot ∙ behind.prior; deep = w.deep_same ∙ behind.prior_deep });
+        deep =
+            w.deep
+            ∙ ap (λ n. max o.depth (n + 1 + o.top.last_depth)) (w.len_is ∙ pushed_length o.below o'.below parent w.pushed ∙ ap (λ n. n + 1) (sym (stack_length o.below)))
+            ∙ ap (λ n. max o.depth (length (stack o.below) + 1 + 1 + n)) behind.last_deep
+            ∙ ap (λ n. max n (length (stack o.below) + 1 + 1 + depth (spine_of part))) (kept.deep ∙ before)
+            ∙ sym (wrapped_deep f k (frame_spine parent) (spine_of part) (stack o.below))
+            ∙ sym (ap depth_of now);
+        many =
+            w.many
+            ∙ ap (λ n. n + 1) (kept.many ∙ counted)
+            ∙ sym (wrapped_many f k (frame_spine parent) (spine_of part) (stack o.below))
+            ∙ sym (ap count_of now);
+      },
+    )
 
 or_none : (a b : Bool) → a ≡ false → (a || b) ≡ true → b ≡ true
 or_none a b x h = grind arith

@@ -28,7 +28,7 @@ IsExact ts (Err (Nodes p)) = Exact (over ts) program (length ts) file_limits (pl
 IsExact ts (Err OutOfMemory) = Unit {0}
 
 -- what the parser has to answer to tokens
-abbrev pub IsParsed : List (Token × Span) → Result Tree ParseFault → Type 0
+unfoldable pub IsParsed : List (Token × Span) → Result Tree ParseFault → Type 0
 IsParsed tokens answer = IsExact (classes_of tokens) answer
 
 -- tokens have at most one whole tree

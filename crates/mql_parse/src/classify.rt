@@ -208,11 +208,7 @@ fn opens_function(heading: Heading, class: Class) -> bool
 }
 
 /// The roles, with one more where a name is told to have one.
-fn told<'a>(
-    roles: Roles<'a>,
-    name: &'a [u16],
-    role: Option<Role>,
-) -> Result<Roles<'a>, OutOfMemory>
+fn told<'a>(roles: Roles<'a>, name: &'a [u16], role: Option<Role>) -> Result<Roles<'a>, OutOfMemory>
     ensures { IfOk result (λ m. (q : List ℕ) → role_in m q ≡ told (role_in roles.entry) name.now role q) }
 {
     match role {
@@ -247,13 +243,7 @@ fn name_of(token: &Token, class: Class) -> &[u16]
     ensures { result.now ≡ name_of token.now class }
 {
     match token {
-        Token::Name(name) => {
-            if is_name(class) {
-                name.as_slice()
-            } else {
-                &[]
-            }
-        }
+        Token::Name(name) => { if is_name(class) { name.as_slice() } else { &[] } }
         _ => &[],
     }
 }

@@ -11,6 +11,7 @@ use mql_tree::{Tokens, Tree};
 use std::alloc::Global;
 
 /// The tree of tokens, or the first fault in them. It asks for at most 400,000 tokens.
+#[tactic(auto, unfolding(crate::specs::Parsed::IsParsed))]
 pub fn parse(alloc: Global, tokens: &Tokens) -> Result<Tree, ParseFault>
     requires { length tokens.now ≤ 400000 }
     ensures { IsParsed tokens.now result }
