@@ -8,6 +8,8 @@ mod frame;
 mod names;
 mod parser;
 mod reader;
+#[cfg(test)]
+mod tests;
 mod word;
 
 pub use fault::ParseFault;
