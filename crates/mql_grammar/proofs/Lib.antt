@@ -9,3 +9,10 @@ pub mod TableLaws
 pub mod Segments
 pub mod Lookups
 pub mod Theorem
+pub mod FollowChecked
+pub mod FollowLaws
+pub mod Derivatives
+pub mod Beginnings
+pub mod Onward
+pub mod Simulation
+pub mod ExpressionsChecked
