@@ -176,6 +176,7 @@ module _ (tokens : List (Token × Span)) (scope : Scope) where
 
     mutual
       unfolding number
+
       pub number_good : (t : Tree) → Good (IsInt locals) (number tokens scope t)
       number_good (Leaf k) = there_good (IsInt locals) (IsInt locals) (operand_of scope (token_at tokens k)) (Some k) Ok (operand_good locals scope (token_at tokens k) ints_all seen) (λ e h. h)
       number_good (Node' form row parts) =

@@ -199,6 +199,7 @@ module _ (tokens : List (Token × Span)) where
 
   mutual
     unfolding statement sequence
+
     statement_good : (t : Tree) (direct : Bool) (scope : Scope) → Fits scope → Good (IsStated scope) (statement tokens direct scope t)
     statement_good (Leaf k) direct scope f = tt
     statement_good (Node' form row parts) direct scope f =
