@@ -1,5 +1,5 @@
 -- Statements (MQL5 Reference, Language Basics, Operators).
-use Rattle.std.specs.Prelude.{ℕ, Bool, true, false, ◌&&◌, if◌then◌else◌, List, [], ◌∷◌, Option, Some, None, Result, Ok, Err, slice_get, length}
+use Rattle.std.specs.Prelude.{ℕ, Bool, true, false, ◌&&◌, if◌then◌else◌, List, [], ◌∷◌, Option, Some, None, Ok, Err, slice_get, length}
 use Rattle.mql_mean.specs.declared.tree.Native.TheVariants as native
 use Rattle.mql_mean.specs.declared.tree.Expression.{Expression}
 use Rattle.mql_mean.specs.declared.tree.Expression.TheVariants as made
@@ -13,13 +13,12 @@ use Rattle.mql_level.specs.declared.form.NodeKind.{NodeKind}
 use Rattle.mql_level.specs.declared.form.NodeKind.TheVariants as node
 use Rattle.mql_level.specs.declared.statement.StatementForm.{StatementForm}
 use Rattle.mql_level.specs.declared.statement.StatementForm.TheVariants.{Empty, Block, Declaration, Evaluation, If, While}
-use Rattle.mql_level.specs.declared.part.Part.{Part}
 use Rattle.mql_level.specs.declared.part.Part.TheVariants.{Sign, Reserved, Number, Argument, Condition, NewName, LocalName, Node, Statement as AnyStatement}
 use Rattle.mql_level.specs.declared.word.Word.{Word}
 use Rattle.mql_level.specs.declared.word.Word.TheVariants as words
 use Rattle.mql_level.specs.declared.scope.Scope.{Scope}
 use Rattle.mql_level.specs.Forms.{node_kind, open_round, close_round, open_curly, close_curly, semicolon, comma, assign}
-use Rattle.mql_level.specs.Leaves.{first, first_among, first_of, list_of, leaf, is_statement, line_of}
+use Rattle.mql_level.specs.Leaves.{first, first_among, list_of, leaf, is_statement, line_of}
 use Rattle.mql_level.specs.Locals.{declared, behind_block}
 use Rattle.mql_level.specs.Parts.{stands, stand, name_of, local_of, text_of}
 use Rattle.mql_level.specs.Numbers.{number, condition}
