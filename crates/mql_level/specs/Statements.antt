@@ -119,22 +119,22 @@ module _ (tokens : List (Token × Span)) where
   unfoldable pub argument : Scope → Tree → Read Expression
   argument scope t = argument_at scope t (text_of (leaf tokens t))
 
-  -- the arguments among trees, from left to right
+  -- the arguments among the parts of a call, from left to right; `Print` itself is none, since no local's name has capitals
   unfoldable pub arguments : Scope → List Tree → Read (List Expression)
   arguments scope [] = Ok []
   arguments scope (t ∷ ts) = with_argument (stands tokens scope Argument t) (argument scope t) (arguments scope ts)
 
-  -- what a number at a place among trees is
+  -- the number at a place among parts; the forms that ask for one have that place
   abbrev pub number_at : Scope → Option Tree → Read Expression
   number_at scope None = Err None
   number_at scope (Some t) = number tokens scope t
 
-  -- the local at a place among trees
+  -- the local at a place among parts
   abbrev pub local_at : Scope → Option Tree → Option ℕ
   local_at scope None = None
   local_at scope (Some t) = local_of scope (leaf tokens t)
 
-  -- the name at a place among trees
+  -- the name at a place among parts
   abbrev pub name_at : Option Tree → Option (List ℕ)
   name_at None = None
   name_at (Some t) = name_of (leaf tokens t)
@@ -175,7 +175,7 @@ module _ (tokens : List (Token × Span)) where
   declaration scope line parts place =
       there (name_at (slice_get parts 1)) place λ name. number_at scope (slice_get parts 3) >>= λ e. Ok (statements.Assign line (length scope.names) e, declared scope name)
 
-  -- the condition at a place among trees
+  -- the condition at a place among parts; the forms that ask for one have that place
   abbrev pub condition_of : Scope → Option Tree → Read Expression
   condition_of scope None = Err None
   condition_of scope (Some t) = condition tokens scope t
