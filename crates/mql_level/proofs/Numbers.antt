@@ -1,8 +1,8 @@
 -- How numbers are read.
-use Rattle.std.proofs.Common.{◌≡◌, ℕ, ◌+◌, ◌<◌, Bool, true, false, List, [], ◌∷◌, ◌++◌, length, drop, get_or, append_assoc, append-nil, Option, Some, None, Result, Ok, Err, refl, sym, ap, ◌∙◌, subst, arith}
+use Rattle.std.proofs.Common.{◌≡◌, ℕ, true, false, List, [], ◌∷◌, ◌++◌, append-nil, Option, Some, Ok, Err, refl, sym, ap, ◌∙◌, subst}
 use Rattle.mql_tree.specs.declared.token.Span.{Span}
 use Rattle.mql_tree.specs.declared.token.Token.{Token}
-use Rattle.mql_tree.specs.declared.token.Tree.{Tree, Leaf, Node', Row_of-Tree, end_of-Tree, more_of-Tree}
+use Rattle.mql_tree.specs.declared.token.Tree.{Tree, Leaf, Row_of-Tree, end_of-Tree, more_of-Tree}
 use Rattle.mql_tree.specs.declared.token.Tree.TheVariants as v
 use Rattle.mql_mean.specs.declared.tree.Expression.{Expression}
 use Rattle.mql_level.specs.declared.form.NodeKind.{NodeKind}
@@ -15,7 +15,7 @@ use Rattle.mql_level.specs.Forms.{node_kind}
 use Rattle.mql_level.specs.Leaves.{first, list_of, leaf}
 use Rattle.mql_level.specs.Parts.{stands}
 use Rattle.mql_level.specs.Numbers.{operand_of, formed, number_form, with_number, number, numbers, numbers_in}
-use Rattle.mql_level.specs.Read.{Read, ◌>>=◌, there, Answers}
+use Rattle.mql_level.specs.Read.{Read, there, Answers}
 use Rattle.mql_level.proofs.Rows.{row_of, parts_of}
 use Rattle.mql_level.proofs.Answers.{err_on, ahead, ahead_more}
 

@@ -1,24 +1,23 @@
 -- How statements are read.
-use Rattle.std.proofs.Common.{◌≡◌, ℕ, ◌+◌, ◌<◌, Bool, true, false, List, [], ◌∷◌, ◌++◌, length, take, drop, get_or, append_assoc, append-nil, Option, Some, None, Result, Ok, Err, refl, sym, ap, ◌∙◌, subst, arith}
+use Rattle.std.proofs.Common.{◌≡◌, ℕ, Bool, true, false, List, [], ◌∷◌, ◌++◌, length, take, append_assoc, append-nil, Option, Some, Ok, Err, refl, sym, ap, ◌∙◌, subst}
 use Rattle.mql_tree.specs.declared.token.Span.{Span}
 use Rattle.mql_tree.specs.declared.token.Token.{Token}
-use Rattle.mql_tree.specs.declared.token.Tree.{Tree, Leaf, Node', Row_of-Tree, end_of-Tree, more_of-Tree}
+use Rattle.mql_tree.specs.declared.token.Tree.{Tree, Leaf, Row_of-Tree, end_of-Tree, more_of-Tree}
 use Rattle.mql_tree.specs.declared.token.Tree.TheVariants as v
 use Rattle.mql_mean.specs.declared.tree.Expression.{Expression}
 use Rattle.mql_mean.specs.declared.tree.Statement.{Statement}
 use Rattle.mql_mean.specs.declared.tree.Statement.TheVariants as made
 use Rattle.mql_level.specs.declared.form.NodeKind.{NodeKind}
 use Rattle.mql_level.specs.declared.statement.StatementForm.{StatementForm}
-use Rattle.mql_level.specs.declared.statement.StatementForm.TheVariants as forms
 use Rattle.mql_level.specs.declared.level.LevelFault.{LevelFault}
 use Rattle.mql_level.specs.declared.part.Part.TheVariants as part
 use Rattle.mql_level.specs.declared.scope.Scope.{Scope}
 use Rattle.mql_level.specs.Forms.{node_kind}
-use Rattle.mql_level.specs.Leaves.{first, first_among, list_of, is_statement, line_of}
+use Rattle.mql_level.specs.Leaves.{first, list_of, is_statement, line_of}
 use Rattle.mql_level.specs.Locals.{behind_block}
 use Rattle.mql_level.specs.Parts.{stands}
 use Rattle.mql_level.specs.Statements.{Stated, Sequence, argument, arguments, with_argument, with_statement, governed, statement_form, stated, statement, sequence, sequence_in}
-use Rattle.mql_level.specs.Read.{Read, ◌>>=◌, there, Answers}
+use Rattle.mql_level.specs.Read.{Read, ◌>>=◌, Answers}
 use Rattle.mql_level.proofs.Rows.{row_of, parts_of}
 use Rattle.mql_level.proofs.Answers.{err_on, then_err, ahead, ahead_more}
 

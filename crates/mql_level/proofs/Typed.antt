@@ -1,6 +1,6 @@
 -- What is read is typed: expressions.
-use Rattle.std.proofs.Common.{◌≡◌, ℕ, zero, suc, ◌+◌, ◌<◌, ◌≤◌, Bool, true, false, cond, ◌&&◌, List, [], ◌∷◌, ◌++◌, length, take, get_or, Option, Some, None, Ok, Err, refl, sym, ap, ◌∙◌, subst, arith, lit<}
-use Rattle.std.specs.Prelude.{slice_get, nat_le, nat_eq, ◌||◌, is_some, pos}
+use Rattle.std.proofs.Common.{◌≡◌, ℕ, zero, suc, ◌<◌, ◌≤◌, Bool, true, false, cond, ◌&&◌, List, [], ◌∷◌, ◌++◌, length, take, get_or, Option, Some, None, Ok, Err, refl, sym, ap, ◌∙◌, subst, arith}
+use Rattle.std.specs.Prelude.{slice_get, nat_le, pos}
 use Rattle.std.proofs.lemmas.Option.{slice_get-get_or}
 use Rattle.std.proofs.lemmas.Int.{ints}
 use Rattle.std.proofs.lemmas.Bool.{leb-true}
@@ -8,7 +8,6 @@ use mathlib.Core.Former.{Count}
 use Rattle.fx8.specs.declared.int_kind.IntKind.{IntKind}
 use Rattle.fx8.specs.declared.int_kind.IntKind.TheVariants as kind
 use Rattle.fx8.specs.declared.int_operator.IntOperator.{IntOperator}
-use Rattle.fx8.specs.declared.int_operator.IntOperator.TheVariants as binary
 use Rattle.mql_mean.specs.declared.tree.Expression.{Expression, Row_of-Expression, end_of-Expression, more_of-Expression, items-the_row-Expression, items_hidden-the_row-Expression-0}
 use Rattle.mql_mean.specs.declared.tree.Expression as tree
 use Rattle.mql_mean.specs.declared.tree.Expression.TheVariants as expression
@@ -19,10 +18,8 @@ use Rattle.mql_mean.specs.declared.tree.UnaryOperator.TheVariants as minus
 use Rattle.mql_mean.specs.Natives.{is_int}
 use Rattle.mql_mean.specs.Types as types
 use Rattle.mql_mean.specs.Apply.{arity, compares, kind_if}
-use Rattle.mql_tree.specs.declared.token.Span.{Span}
 use Rattle.mql_tree.specs.declared.token.Token.{Token}
 use Rattle.mql_tree.specs.declared.token.Token.TheVariants as token
-use Rattle.mql_tree.specs.declared.token.Tree.{Tree, Leaf, Node', Row_of-Tree, end_of-Tree, more_of-Tree}
 use Rattle.mql_level.specs.declared.scope.Scope.{Scope}
 use Rattle.mql_level.specs.Locals.{is_named, visible_among, visible}
 use Rattle.mql_level.specs.Parts.{literal_of, seen_in, local_of, name_of}

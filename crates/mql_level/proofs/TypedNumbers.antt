@@ -1,12 +1,9 @@
 -- What is read is typed: numbers, conditions and arguments.
-use Rattle.std.proofs.Common.{◌≡◌, ℕ, zero, suc, ◌+◌, ◌<◌, ◌≤◌, Bool, true, false, cond, ◌&&◌, List, [], ◌∷◌, ◌++◌, length, Option, Some, None, Ok, Err, refl, sym, ap, ◌∙◌, subst, arith}
-use Rattle.std.specs.Prelude.{is_some, ◌||◌, slice_get}
+use Rattle.std.proofs.Common.{◌≡◌, ℕ, suc, Bool, true, false, cond, List, [], ◌∷◌, length, Option, Some, None, Ok, Err, refl, sym, ap, subst}
 use Rattle.fx8.specs.declared.int_kind.IntKind.{IntKind}
 use Rattle.fx8.specs.declared.int_operator.IntOperator.{IntOperator}
 use Rattle.fx8.specs.declared.int_operator.IntOperator.TheVariants as binary
 use Rattle.mql_mean.specs.declared.tree.Expression.{Expression}
-use Rattle.mql_mean.specs.declared.tree.Expression.TheVariants as expression
-use Rattle.mql_mean.specs.Types as types
 use Rattle.mql_mean.specs.Apply.{compares}
 use Rattle.mql_tree.specs.declared.token.Span.{Span}
 use Rattle.mql_tree.specs.declared.token.Token.{Token}
@@ -22,13 +19,13 @@ use Rattle.mql_level.specs.declared.part.Part.TheVariants.{Sign, Number, Argumen
 use Rattle.mql_level.specs.declared.word.Word.TheVariants as words
 use Rattle.mql_level.specs.declared.scope.Scope.{Scope}
 use Rattle.mql_level.specs.Forms.{node_kind, open_round, close_round, plus, minus, times, divide, remainder, less, less_or_equal, greater, greater_or_equal, equal, not_equal}
-use Rattle.mql_level.specs.Leaves.{first, first_among, list_of, leaf, token_at, is_node}
-use Rattle.mql_level.specs.Parts.{stands, stand, is_sign, is_word, literal_of, local_of, seen_in, name_of, is_operand, text_of}
-use Rattle.mql_level.specs.Numbers.{operand_of, sole, applied, formed, compared, map_joined, is_joined, of_product, of_sum, of_relation, of_equality, bracketed, negated, number_form, comparison_form, leaf_number, with_number, number, numbers, numbers_in, truth_of, condition_at, condition}
+use Rattle.mql_level.specs.Leaves.{first, first_among, list_of, leaf, token_at}
+use Rattle.mql_level.specs.Parts.{stands, stand, is_sign, is_word, literal_of, local_of, name_of, is_operand, text_of}
+use Rattle.mql_level.specs.Numbers.{operand_of, sole, formed, compared, map_joined, is_joined, of_product, of_sum, of_relation, of_equality, bracketed, negated, number_form, comparison_form, with_number, number, numbers_in, truth_of, condition_at, condition}
 use Rattle.mql_level.specs.Statements.{argument_at, argument, with_argument, arguments}
-use Rattle.mql_level.specs.Read.{Read, ◌>>=◌, there}
+use Rattle.mql_level.specs.Read.{Read}
 use Rattle.mql_level.proofs.Numbers.{numbers_row}
-use Rattle.mql_level.proofs.Typed.{Good, then_good, Holds, there_good, right_of, left_of, AllBelow, AllInts, IsInt, IsCondition, AreInts, IsArgument, AreArguments, negative_int, joined_int, compared_condition, true_condition, false_condition, operand_good, prints_int}
+use Rattle.mql_level.proofs.Typed.{Good, then_good, there_good, right_of, left_of, AllBelow, AllInts, IsInt, IsCondition, AreInts, IsArgument, AreArguments, negative_int, joined_int, compared_condition, true_condition, false_condition, operand_good, prints_int}
 
 both_good : {A : Type 0} (P Q : A → Type 0) (w : Read A) → Good P w → Good Q w → Good (λ a. P a × Q a) w
 both_good P Q (Ok a) h k = (h, k)
@@ -176,6 +173,7 @@ module _ (tokens : List (Token × Span)) (scope : Scope) where
 
     mutual
       unfolding number
+
       pub number_good : (t : Tree) → Good (IsInt locals) (number tokens scope t)
       number_good (Leaf k) = there_good (IsInt locals) (IsInt locals) (operand_of scope (token_at tokens k)) (Some k) Ok (operand_good locals scope (token_at tokens k) ints_all seen) (λ e h. h)
       number_good (Node' form row parts) =

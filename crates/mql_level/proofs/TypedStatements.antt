@@ -1,12 +1,10 @@
 -- What is read is typed: statements and programs.
-use Rattle.std.proofs.Common.{◌≡◌, ℕ, zero, suc, ◌+◌, ◌<◌, ◌≤◌, Bool, true, false, cond, List, [], ◌∷◌, ◌++◌, length, length-append, Option, Some, None, Ok, Err, refl, sym, ap, ◌∙◌, subst, arith, lit<}
+use Rattle.std.proofs.Common.{◌≡◌, ℕ, suc, ◌+◌, ◌<◌, ◌≤◌, Bool, true, false, cond, List, [], ◌∷◌, ◌++◌, length, length-append, Option, Some, None, Ok, Err, refl, sym, ap, ◌∙◌, subst, arith, lit<}
 use Rattle.std.specs.Prelude.{slice_get}
 use mathlib.Core.Former.{Count}
 use Rattle.fx8.specs.declared.int_kind.IntKind.{IntKind}
 use Rattle.fx8.specs.declared.int_kind.IntKind.TheVariants as kind
 use Rattle.mql_mean.specs.declared.tree.Expression.{Expression}
-use Rattle.mql_mean.specs.declared.tree.Expression.TheVariants as expression
-use Rattle.mql_mean.specs.declared.tree.Native.TheVariants as native
 use Rattle.mql_mean.specs.declared.tree.Statement.{Statement, Block', If', While', Row_of-Statement, end_of-Statement, more_of-Statement, items-the_row-Statement, items_hidden-the_row-Statement-0}
 use Rattle.mql_mean.specs.declared.tree.Statement.TheVariants as made
 use Rattle.mql_mean.specs.declared.tree.Checked.{Checked}
@@ -22,12 +20,11 @@ use Rattle.mql_level.specs.declared.statement.StatementForm.TheVariants as forms
 use Rattle.mql_level.specs.declared.scope.Scope.{Scope}
 use Rattle.mql_level.specs.Forms.{node_kind}
 use Rattle.mql_level.specs.Leaves.{first, first_among, list_of, leaf, is_statement, line_of}
-use Rattle.mql_level.specs.Locals.{no_locals, declared, behind_block}
-use Rattle.mql_level.specs.Parts.{local_of}
+use Rattle.mql_level.specs.Locals.{no_locals}
 use Rattle.mql_level.specs.Numbers.{number, condition}
 use Rattle.mql_level.specs.Statements.{Stated, Sequence, arguments, number_at, local_at, name_at, is_assignment, assignment, is_print, print, evaluation_at, evaluation_of, evaluation, declaration, condition_of, governed, statement_form, stated, with_statement, is_block, statement, sequence, sequence_in}
 use Rattle.mql_level.specs.Level.{ints, program_of, all_nodes, body_at, body_of, body, is_on_tick, function_at, function_of, on_tick, items, program_at, program_in, program_items}
-use Rattle.mql_level.specs.Read.{Read, ◌>>=◌, there}
+use Rattle.mql_level.specs.Read.{Read}
 use Rattle.mql_level.proofs.Typed.{Good, then_good, Holds, there_good, AllBelow, below_more, below_append, below_take, local_below, AllInts, is_there, IsInt, IsCondition, AreArguments, local_is, call_typed}
 use Rattle.mql_level.proofs.TypedNumbers.{number_good, condition_good, arguments_good}
 
@@ -199,6 +196,7 @@ module _ (tokens : List (Token × Span)) where
 
   mutual
     unfolding statement sequence
+
     statement_good : (t : Tree) (direct : Bool) (scope : Scope) → Fits scope → Good (IsStated scope) (statement tokens direct scope t)
     statement_good (Leaf k) direct scope f = tt
     statement_good (Node' form row parts) direct scope f =

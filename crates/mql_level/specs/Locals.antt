@@ -1,5 +1,5 @@
 -- The local variables of the function (MQL5 Reference, Language Basics, Variables, Local Variables).
-use Rattle.std.specs.Prelude.{ℕ, Bool, true, false, ◌||◌, if◌then◌else◌, List, [], ◌∷◌, ◌++◌, length, take, Option, Some, None, slice_get, bytes_eq}
+use Rattle.std.specs.Prelude.{ℕ, Bool, false, ◌||◌, if◌then◌else◌, List, [], ◌∷◌, ◌++◌, length, take, Option, Some, None, slice_get, bytes_eq}
 use Rattle.mql_level.specs.declared.scope.Scope.{Scope}
 
 -- the name of an option is this one

@@ -1,5 +1,5 @@
 -- Numbers and conditions (MQL5 Reference, Language Basics, Operations and Expressions).
-use Rattle.std.specs.Prelude.{ℕ, pos, Bool, true, false, ◌&&◌, if◌then◌else◌, List, [], ◌∷◌, ◌++◌, Option, Some, None, Result, Ok, Err}
+use Rattle.std.specs.Prelude.{ℕ, pos, Bool, true, false, if◌then◌else◌, List, [], ◌∷◌, Option, Some, None, Ok, Err}
 use Rattle.fx8.specs.declared.int_kind.IntKind.TheVariants as kinds
 use Rattle.fx8.specs.declared.int_operator.IntOperator.{IntOperator}
 use Rattle.fx8.specs.declared.int_operator.IntOperator.TheVariants as operators
@@ -16,7 +16,6 @@ use Rattle.mql_level.specs.declared.form.NodeKind.{NodeKind}
 use Rattle.mql_level.specs.declared.form.NodeKind.TheVariants as node
 use Rattle.mql_level.specs.declared.number.NumberForm.{NumberForm}
 use Rattle.mql_level.specs.declared.number.NumberForm.TheVariants.{Bracketed, Negated, Joined}
-use Rattle.mql_level.specs.declared.part.Part.{Part}
 use Rattle.mql_level.specs.declared.part.Part.TheVariants.{Sign, Number}
 use Rattle.mql_level.specs.declared.word.Word.TheVariants as words
 use Rattle.mql_level.specs.declared.scope.Scope.{Scope}

@@ -1,5 +1,5 @@
 -- Statements (MQL5 Reference, Language Basics, Operators).
-use Rattle.std.specs.Prelude.{ℕ, Bool, true, false, ◌&&◌, if◌then◌else◌, List, [], ◌∷◌, Option, Some, None, Result, Ok, Err, slice_get, length}
+use Rattle.std.specs.Prelude.{ℕ, Bool, true, false, ◌&&◌, if◌then◌else◌, List, [], ◌∷◌, Option, Some, None, Ok, Err, slice_get, length}
 use Rattle.mql_mean.specs.declared.tree.Native.TheVariants as native
 use Rattle.mql_mean.specs.declared.tree.Expression.{Expression}
 use Rattle.mql_mean.specs.declared.tree.Expression.TheVariants as made
@@ -13,13 +13,12 @@ use Rattle.mql_level.specs.declared.form.NodeKind.{NodeKind}
 use Rattle.mql_level.specs.declared.form.NodeKind.TheVariants as node
 use Rattle.mql_level.specs.declared.statement.StatementForm.{StatementForm}
 use Rattle.mql_level.specs.declared.statement.StatementForm.TheVariants.{Empty, Block, Declaration, Evaluation, If, While}
-use Rattle.mql_level.specs.declared.part.Part.{Part}
 use Rattle.mql_level.specs.declared.part.Part.TheVariants.{Sign, Reserved, Number, Argument, Condition, NewName, LocalName, Node, Statement as AnyStatement}
 use Rattle.mql_level.specs.declared.word.Word.{Word}
 use Rattle.mql_level.specs.declared.word.Word.TheVariants as words
 use Rattle.mql_level.specs.declared.scope.Scope.{Scope}
 use Rattle.mql_level.specs.Forms.{node_kind, open_round, close_round, open_curly, close_curly, semicolon, comma, assign}
-use Rattle.mql_level.specs.Leaves.{first, first_among, first_of, list_of, leaf, is_statement, line_of}
+use Rattle.mql_level.specs.Leaves.{first, first_among, list_of, leaf, is_statement, line_of}
 use Rattle.mql_level.specs.Locals.{declared, behind_block}
 use Rattle.mql_level.specs.Parts.{stands, stand, name_of, local_of, text_of}
 use Rattle.mql_level.specs.Numbers.{number, condition}
@@ -120,22 +119,22 @@ module _ (tokens : List (Token × Span)) where
   unfoldable pub argument : Scope → Tree → Read Expression
   argument scope t = argument_at scope t (text_of (leaf tokens t))
 
-  -- the arguments among trees, from left to right
+  -- the arguments among the parts of a call, from left to right; `Print` itself is none, since no local's name has capitals
   unfoldable pub arguments : Scope → List Tree → Read (List Expression)
   arguments scope [] = Ok []
   arguments scope (t ∷ ts) = with_argument (stands tokens scope Argument t) (argument scope t) (arguments scope ts)
 
-  -- what a number at a place among trees is
+  -- the number at a place among parts; the forms that ask for one have that place
   abbrev pub number_at : Scope → Option Tree → Read Expression
   number_at scope None = Err None
   number_at scope (Some t) = number tokens scope t
 
-  -- the local at a place among trees
+  -- the local at a place among parts
   abbrev pub local_at : Scope → Option Tree → Option ℕ
   local_at scope None = None
   local_at scope (Some t) = local_of scope (leaf tokens t)
 
-  -- the name at a place among trees
+  -- the name at a place among parts
   abbrev pub name_at : Option Tree → Option (List ℕ)
   name_at None = None
   name_at (Some t) = name_of (leaf tokens t)
@@ -176,7 +175,7 @@ module _ (tokens : List (Token × Span)) where
   declaration scope line parts place =
       there (name_at (slice_get parts 1)) place λ name. number_at scope (slice_get parts 3) >>= λ e. Ok (statements.Assign line (length scope.names) e, declared scope name)
 
-  -- the condition at a place among trees
+  -- the condition at a place among parts; the forms that ask for one have that place
   abbrev pub condition_of : Scope → Option Tree → Read Expression
   condition_of scope None = Err None
   condition_of scope (Some t) = condition tokens scope t

@@ -9,6 +9,8 @@ mod part;
 mod scope;
 mod sign;
 mod statement;
+#[cfg(test)]
+mod tests;
 mod word;
 
 pub use level::{LevelFault, read_level};

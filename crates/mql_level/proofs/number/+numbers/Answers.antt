@@ -1,4 +1,4 @@
-use Rattle.std.proofs.Common.{◌≡◌, sym, ap, ◌∙◌, [], ◌∷◌, drop, ◌+◌, Some, None, Ok, Err}
+use Rattle.std.proofs.Common.{sym, ap, ◌∙◌, drop, ◌+◌, Some, None}
 use Rattle.std.proofs.lemmas.List.{drop_all}
 use Rattle.mql_level.specs.Numbers.{numbers_in}
 use Rattle.mql_level.proofs.Answers.{exit, ahead, from_place}

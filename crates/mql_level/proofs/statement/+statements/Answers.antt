@@ -1,4 +1,4 @@
-use Rattle.std.proofs.Common.{◌≡◌, sym, ap, ◌∙◌, [], ◌∷◌, drop, ◌+◌, Some, None}
+use Rattle.std.proofs.Common.{sym, ap, ◌∙◌, drop, ◌+◌, Some, None}
 use Rattle.std.proofs.lemmas.List.{drop_all}
 use Rattle.mql_mean.specs.declared.tree.Statement.TheVariants as made
 use Rattle.mql_level.specs.Statements.{sequence_in}

@@ -1,4 +1,4 @@
-use Rattle.std.proofs.Common.{◌≡◌, sym, ap, ◌∙◌, [], ◌∷◌, drop, ◌+◌}
+use Rattle.std.proofs.Common.{sym, ap, ◌∙◌, drop, ◌+◌}
 use Rattle.std.proofs.lemmas.List.{drop_all}
 use Rattle.mql_level.specs.Statements.{arguments}
 use Rattle.mql_level.proofs.Answers.{exit, ahead, from_place}
