@@ -52,3 +52,11 @@ Answers a (Err (Syntax p)) = a ≡ fault (syntax_at p)
 Answers a (Err (Depth p)) = a ≡ fault (depth_at p)
 Answers a (Err (Nodes p)) = a ≡ fault (nodes_at p)
 Answers a (Err OutOfMemory) = Unit {0}
+
+-- the one answer of tokens: want of memory is none
+abbrev pub Parsing : List (Token × Span) → Result Tree ParseFault → Type 0
+Parsing tokens (Err OutOfMemory) = ⊥
+Parsing tokens (Ok t) = IsParsed tokens (Ok t)
+Parsing tokens (Err (Syntax p)) = IsParsed tokens (Err (Syntax p))
+Parsing tokens (Err (Depth p)) = IsParsed tokens (Err (Depth p))
+Parsing tokens (Err (Nodes p)) = IsParsed tokens (Err (Nodes p))

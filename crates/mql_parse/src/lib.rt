@@ -13,5 +13,5 @@ mod tests;
 mod word;
 
 pub use fault::ParseFault;
-pub use parser::{classes_by_those_before, one_tree, parse};
+pub use parser::{classes_by_those_before, one_answer, one_tree, parse};
 pub use reader::{DEPTH_LIMIT, NODE_LIMIT};

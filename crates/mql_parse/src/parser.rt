@@ -1,8 +1,10 @@
 //! From tokens to their tree.
-ghost use Rattle.std.specs.Prelude.{◌≤◌, List, length};
+ghost use Rattle.std.specs.Prelude.{◌≡◌, ◌≤◌, List, Result, length};
+ghost use Rattle.mql_tree.specs.declared.token.Tree.{Tree};
+ghost use Rattle.mql_parse.specs.declared.fault.ParseFault.{ParseFault};
 ghost use Rattle.mql_tree.specs.declared.token.Span.{Span};
 ghost use Rattle.mql_tree.specs.declared.token.Token.{Token};
-ghost use Rattle.mql_parse.specs.Parsed.{IsParsed, HasOneTree, KeepsClasses};
+ghost use Rattle.mql_parse.specs.Parsed.{IsParsed, Parsing, HasOneTree, KeepsClasses};
 
 use crate::ParseFault;
 use crate::classify::classify;
@@ -28,4 +30,9 @@ pub fn one_tree()
 /// What a token is depends on itself and those before it.
 pub fn classes_by_those_before()
     ensures { (tokens : List (Token × Span)) → KeepsClasses tokens }
+{}
+
+/// Tokens have one answer of the parser.
+pub fn one_answer()
+    ensures { (tokens : List (Token × Span)) (a b : Result Tree ParseFault) → Parsing tokens a → Parsing tokens b → a ≡ b }
 {}

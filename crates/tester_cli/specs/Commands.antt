@@ -1,29 +1,25 @@
 -- What each command does. Own.
-use Rattle.std.specs.Prelude.{◌≡◌, ℕ, Bool, true, false, List, [], ◌∷◌, Option, Some, None, codes}
+use Rattle.std.specs.Prelude.{◌≡◌, ℕ, Bool, true, false, List, [], ◌∷◌, ◌++◌, Option, Some, None, codes}
 use Rattle.std.specs.Str.{bytes_eq}
 use Rattle.mql_mean.specs.declared.tree.Checked.{Checked}
-use Rattle.mql_source.specs.Source.{checked_of}
 use Rattle.market_data.specs.declared.bar.Bar.{Bar}
 use Rattle.market_data.specs.BarsFile.{bars_of}
 use Rattle.market_data.specs.Quotes.{opening_quotes}
 use Rattle.tester_cli.specs.declared.result.PassResult.{PassResult}
 use Rattle.tester_answer.specs.declared.status.Status.{Status}
-use Rattle.tester_answer.specs.declared.status.Status.TheVariants.{Done, Usage, Source, Prices}
+use Rattle.tester_answer.specs.declared.status.Status.TheVariants.{Done, Usage, Prices}
 use Rattle.tester_answer.specs.Answer.{Ending, Plan, Reads, Ends, refuses}
-use Rattle.tester_cli.specs.Compiling.{unbuilt}
+use Rattle.mql_tree.specs.declared.token.Tree.{Tree}
+use Rattle.mql_level.specs.Level.{program}
+use Rattle.mql_preproc.specs.declared.source.Source.{Source}
+use Rattle.tester_sources.specs.Reading.{Tokens, program_plan}
+use Rattle.tester_sources.specs.Judging.{tree_plan, with_program}
 use Rattle.tester_cli.specs.Pass.{Passes}
 use Rattle.tester_cli.specs.Report.{IsReport}
 
--- the most bytes of a source, 4 MiB, and of a price file, 512 MiB
-abbrev pub source_limit : ℕ
-source_limit = 4194304
-
+-- the most bytes of a price file, 512 MiB
 abbrev pub price_limit : ℕ
 price_limit = 536870912
-
-abbrev pub with_source : List ℕ → Option Checked → (Checked → Plan) → Plan
-with_source name None next = refuses (Source (unbuilt name))
-with_source name (Some checked) next = next checked
 
 -- a bars file that is not of the form that is read so far: row 0, rule 10
 abbrev pub with_bars : List ℕ → Option (List Bar) → (List Bar → Plan) → Plan
@@ -43,13 +39,34 @@ reports checked bars held status text after = (status ≡ Done) × Reports check
 abbrev pub quick_bars : List ℕ → Checked → Plan
 quick_bars bars checked = Reads bars price_limit (λ bytes. with_bars bars (bars_of bytes) (λ rows. Ends (reports checked rows)))
 
-abbrev pub quick_plan : List ℕ → List ℕ → Plan
-quick_plan expert bars = Reads expert source_limit (λ source. with_source expert (checked_of source) (quick_bars bars))
+abbrev pub quick_tree : List ℕ → List ℕ → List Source → Tokens → Tree → Plan
+quick_tree expert bars sources tokens tree = with_program expert sources tokens (quick_bars bars) (program tokens tree)
 
--- the names that the command takes
+abbrev pub quick_rest : List ℕ → List ℕ → List Source → Tokens → Plan
+quick_rest expert bars = tree_plan expert (quick_tree expert bars)
+
+abbrev pub quick_plan : List ℕ → List ℕ → Plan
+quick_plan expert bars = program_plan expert (quick_rest expert bars)
+
+-- a text is written; no file changes
+abbrev pub says : List ℕ → Ending
+says words held status text after = (status ≡ Done) × (text ≡ words) × (after ≡ held)
+
+-- `check SOURCE`: the stages that are built so far find no fault
+abbrev pub check_tree : List Source → Tokens → Tree → Plan
+check_tree sources tokens tree = Ends (says (codes "ok" ++ 10 ∷ []))
+
+abbrev pub check_plan : List ℕ → Plan
+check_plan entry = program_plan entry (tree_plan entry check_tree)
+
+-- the names that the commands take
 abbrev pub quick_names : List (List ℕ) → Plan
 quick_names (expert ∷ bars ∷ []) = quick_plan expert bars
 quick_names names = refuses (Usage 3)
+
+abbrev pub check_names : List (List ℕ) → Plan
+check_names (entry ∷ []) = check_plan entry
+check_names names = refuses (Usage 3)
 
 abbrev pub chosen : Bool → Plan → Plan → Plan
 chosen true a b = a
@@ -58,4 +75,4 @@ chosen false a b = b
 -- what the words of a command line do: no command or an unknown one breaks usage rule 2, a wrong number of names rule 3
 abbrev pub plan_of : List (List ℕ) → Plan
 plan_of [] = refuses (Usage 2)
-plan_of (command ∷ names) = chosen (bytes_eq command (codes "quick")) (quick_names names) (refuses (Usage 2))
+plan_of (command ∷ names) = chosen (bytes_eq command (codes "quick")) (quick_names names) (chosen (bytes_eq command (codes "check")) (check_names names) (refuses (Usage 2)))

@@ -1,25 +1,16 @@
 //! From the texts of a source to a program.
-ghost use Rattle.std.specs.Prelude.{◌≡◌, false, None, IfOk, IfErr, MatchOption, MatchResult};
-ghost use Rattle.mql_source.specs.Bytes.{all_ascii};
-ghost use Rattle.tester_cli.specs.Compiling.{IsAlone, entry_text, IsProgramOf, UnbuiltFault, CompileRefused};
-ghost use Rattle.mql_source.specs.Source.{checked_of};
+ghost use Rattle.std.specs.Prelude.{◌≡◌, ◌≤◌, ◌^◌, length, All, IfOk, IfErr};
+ghost use Rattle.tester_cli.specs.Compiling.{IsProgramOf, Compiles, ProgramRefused, CompileRefused, FaultOf};
 
-use fx8::{ItemList, OutOfMemory, Text, Text8};
+use fx8::{OutOfMemory, Text8};
 use mql_lower::lower;
-use mql_source::read_source;
+use mql_tree::Tokens;
 use stack_vm::Program;
 use std::alloc::Global;
-use tester_answer::SourceFault;
+use tester_answer::{SourceFault, Status};
+use tester_sources::{Wanted, judge_form, judge_tree, make_wanted};
 
-/// A source text with its name.
-#[derive(Debug, Drop)]
-pub struct Source {
-    pub name: Text8,
-    pub text: Text,
-}
-
-/// Source texts by name.
-pub type Sources = ItemList<Source>;
+pub use mql_preproc::{Source, Sources};
 
 /// Why sources do not compile.
 #[derive(Debug, Drop)]
@@ -42,64 +33,50 @@ impl From<OutOfMemory> for CompileFault {
     }
 }
 
-// The bytes of a text of ASCII characters; `None` for any other text.
-fn ascii_bytes(alloc: Global, units: &[u16]) -> Result<Option<Text8>, OutOfMemory>
-    ensures { IfOk result (λ found. MatchOption found (all_ascii units.now ≡ false) (λ bytes. bytes ≡ units.now)) }
+/// The program of a source's tokens, or the status that refuses them: by stage 4 where they have no tree, by stage 7 where
+/// it is not of the form that is built so far.
+pub fn judge_program(
+    alloc: Global,
+    entry: &Text8,
+    sources: &Sources,
+    tokens: &Tokens,
+) -> Result<Program, Status>
+    requires { length tokens.now ≤ 400000 }
+    ensures program { IfOk result (IsProgramOf tokens.now) }
+    ensures refused { IfErr result (ProgramRefused entry.now sources.now tokens.now) }
 {
-    let mut bytes = Text8::new(alloc);
-    for (i, unit) in units.iter().enumerate() {
-        if *unit >= 128 {
-            return Ok(None);
-        }
-        bytes.push(*unit as u8)?;
-    }
-    Ok(Some(bytes))
+    let tree = judge_tree(alloc, entry, sources, tokens)?;
+    let checked = judge_form(alloc, entry, sources, tokens, &tree)?;
+    let program = lower(alloc, &checked)?;
+    Ok(program)
 }
 
-// The fault of a source that is not of the form that is built so far.
-fn unbuilt(alloc: Global, name: &Text8) -> CompileFault
-    ensures { UnbuiltFault name.now result }
+// The fault of a status that refuses a source.
+fn fault_of(status: Status) -> CompileFault
+    ensures { FaultOf status result }
 {
-    match Text8::from_slice(alloc, name.as_slice()) {
-        Ok(file) => CompileFault::Source(SourceFault {
-            stage: 7,
-            rule: 1,
-            file,
-            line: 1,
-        }),
-        Err(OutOfMemory) => CompileFault::OutOfMemory,
-    }
-}
-
-// The program of a text, where the text is a source of the language that is built.
-fn program_of(alloc: Global, text: &Text) -> Result<Option<Program>, OutOfMemory>
-    ensures { IfOk result (λ found. MatchOption found (checked_of text.now ≡ None) (IsProgramOf text.now)) }
-{
-    let Some(bytes) = ascii_bytes(alloc, text.as_slice())? else {
-        return Ok(None);
-    };
-    match read_source(alloc, bytes.as_slice())? {
-        None => Ok(None),
-        Some(checked) => {
-            let program = lower(alloc, &checked)?;
-            Ok(Some(program))
-        }
+    match status {
+        Status::Source(fault) => CompileFault::Source(fault),
+        _ => CompileFault::OutOfMemory,
     }
 }
 
-/// Compiles the source of a name. So far the entry is the one source.
+/// Compiles the source of a name, with the files that it includes among the sources.
 ///
 /// The program has an outcome exactly where the source means it, for every entry, argument, host, store and bound.
 pub fn compile(alloc: Global, entry: &Text8, sources: &Sources) -> Result<Program, CompileFault>
-    requires { IsAlone sources.now entry.now }
-    ensures program { IfOk result (IsProgramOf (entry_text sources.now)) }
-    ensures refused { IfErr result (CompileRefused entry.now (entry_text sources.now)) }
+    requires few { length sources.now ≤ 2 ^ 32 }
+    requires short { All (λ s. length s.text ≤ 1048576) sources.now }
+    ensures program { IfOk result (Compiles entry.now sources.now) }
+    ensures refused { IfErr result (CompileRefused entry.now sources.now) }
 {
-    let [source] = sources.as_slice() else {
-        unreachable!()
+    let tokens = match make_wanted(alloc, entry, sources) {
+        Ok(Wanted::Tokens(tokens)) => tokens,
+        Ok(Wanted::File(name)) => return Err(CompileFault::Need(name)),
+        Err(status) => return Err(fault_of(status)),
     };
-    match program_of(alloc, &source.text)? {
-        Some(program) => Ok(program),
-        None => Err(unbuilt(alloc, entry)),
+    match judge_program(alloc, entry, sources, &tokens) {
+        Ok(program) => Ok(program),
+        Err(status) => Err(fault_of(status)),
     }
 }

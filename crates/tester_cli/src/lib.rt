@@ -1,6 +1,7 @@
 //! The commands of the bench: from the words and files that come in to the text and status that go out.
 #![tactic(auto)]
 
+mod check;
 pub mod compiler;
 pub mod pass;
 mod quick;

@@ -2,72 +2,33 @@
 ghost use Rattle.std.specs.Prelude.{◌≡◌, ◌≤◌, [], None, Some, ◌∷◌, length, All, IfOk, IfErr};
 ghost use Rattle.mql_mean.specs.declared.tree.Checked.{Checked};
 ghost use Rattle.mql_lower.specs.Follows.{Follows};
-ghost use Rattle.mql_source.specs.Source.{checked_of};
 ghost use Rattle.market_data.specs.BarsFile.{bars_of, IsBar};
 ghost use Rattle.tester_io.specs.Outside.{WhereTold};
 ghost use Rattle.tester_answer.specs.Answer.{Gives};
 ghost use Rattle.tester_answer.specs.Clauses.{counts, NoneFell, Refused, Never};
-ghost use Rattle.tester_cli.specs.Refusals.{SourceStatus, BarsStatus};
+ghost use Rattle.tester_cli.specs.Refusals.{BarsStatus};
 ghost use Rattle.tester_cli.specs.Commands.{quick_plan, quick_bars, Reports};
-ghost use Rattle.tester_cli.specs.Compiling.{IsProgramOf};
 
-use crate::compiler::{CompileFault, Source, Sources, compile};
+use crate::compiler::judge_program;
 use crate::pass::run_pass;
 use crate::report::report_text;
-use fx8::{OutOfMemory, Text, Text8};
+use fx8::{OutOfMemory, Text8};
 use market_data::{BarList, RowFault, read_bars};
 use stack_vm::Program;
 use std::alloc::Global;
 use tester_answer::Status;
 use tester_answer::outside::read;
 use tester_io::Files;
-
-/// The most bytes of a source.
-const SOURCE_LIMIT: u64 = 4_194_304;
+use tester_sources::read_sources;
 
 /// The most bytes of a price file.
 const PRICE_LIMIT: u64 = 536_870_912;
 
-// The units of a text of one byte each.
-fn widened(alloc: Global, bytes: &[u8]) -> Result<Text, OutOfMemory>
-    ensures { IfOk result (λ text. text ≡ bytes.now) }
-{
-    let mut text = Text::new(alloc);
-    for byte in bytes {
-        text.push(u16::from(*byte))?;
-    }
-    Ok(text)
-}
-
-fn named(alloc: Global, name: &str) -> Result<Text8, OutOfMemory>
+// A name as bytes.
+pub fn named(alloc: Global, name: &str) -> Result<Text8, OutOfMemory>
     ensures { IfOk result (λ text. text ≡ name.now) }
 {
     Text8::from_slice(alloc, name.as_bytes())
-}
-
-// The one source of a name.
-fn alone(alloc: Global, name: &Text8, bytes: &[u8]) -> Result<Sources, OutOfMemory>
-    ensures { IfOk result (λ sources. sources ≡ record { name = name.now; text = bytes.now } ∷ []) }
-{
-    let name = Text8::from_slice(alloc, name.as_slice())?;
-    let text = widened(alloc, bytes)?;
-    let mut sources = Sources::new(alloc);
-    sources.push(Source { name, text })?;
-    Ok(sources)
-}
-
-// The program of a source, or the status that refuses it.
-fn judge_source(alloc: Global, name: &Text8, bytes: &[u8]) -> Result<Program, Status>
-    ensures program { IfOk result (IsProgramOf bytes.now) }
-    ensures refused { IfErr result (SourceStatus name.now bytes.now) }
-{
-    let sources = alone(alloc, name, bytes)?;
-    match compile(alloc, name, &sources) {
-        Ok(program) => Ok(program),
-        Err(CompileFault::Source(fault)) => Err(Status::Source(fault)),
-        Err(CompileFault::Need(_)) => unreachable!(),
-        Err(CompileFault::OutOfMemory) => Err(Status::OutOfMemory),
-    }
 }
 
 // The bars of a file, or the status that refuses it.
@@ -135,7 +96,7 @@ pub fn quick<F: Files>(
         (counts (F.absents files.new) (F.read_faults files.new) (F.oversizes files.new))) }
 {
     let name = named(alloc, expert)?;
-    let source = read(alloc, files, &name, SOURCE_LIMIT)?;
-    let program = judge_source(alloc, &name, source.as_slice())?;
+    let (sources, tokens) = read_sources(alloc, &name, files)?;
+    let program = judge_program(alloc, &name, &sources, &tokens)?;
     over_bars(alloc, &program, bars, files)
 }

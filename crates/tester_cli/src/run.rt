@@ -4,14 +4,51 @@ ghost use Rattle.std.specs.String.{string_bytes};
 ghost use Rattle.tester_io.specs.Outside.{WhereTold, Rose};
 ghost use Rattle.tester_answer.specs.Answer.{Gives};
 ghost use Rattle.tester_answer.specs.Clauses.{counts, Refuses, Refused, UsageRefused, AtJudgement, AtUnread, WroteWhole, WrotePart, WroteNothing, IsDoneOrMemory, HasDone};
-ghost use Rattle.tester_cli.specs.Commands.{plan_of};
+ghost use Rattle.tester_cli.specs.Commands.{quick_names, check_names, plan_of};
 
+use crate::check::check;
 use crate::quick::quick;
 use fx8::Text8;
+use mql_parse::one_answer as tokens_have_one_answer;
+use mql_preproc::one_answer as files_have_one_answer;
 use std::alloc::Global;
 use tester_answer::Status;
 use tester_answer::outside::write_whole;
 use tester_io::{Files, Sink, WriteError};
+
+// What `quick` writes of these names, or why it writes nothing.
+fn run_quick<F: Files>(alloc: Global, names: &[String], files: &mut F) -> Result<Text8, Status>
+    ensures same { F.told files.new ≡ F.told files.old }
+    ensures ready { IfOk result (λ text. WhereTold (F.told files.old) (λ held. Gives (quick_names (map string_bytes names.now)) held Status.Done text held)) }
+    ensures refused { IfErr result (Refused (UsageRefused (quick_names (map string_bytes names.now))) (quick_names (map string_bytes names.now)) (F.told files.old)
+        (counts (F.absents files.old) (F.read_faults files.old) (F.oversizes files.old))
+        (counts (F.absents files.new) (F.read_faults files.new) (F.oversizes files.new))) }
+{
+    if names.len() != 2 {
+        return Err(Status::Usage(3));
+    }
+    match names {
+        [expert, bars] => quick(alloc, expert.as_str(), bars.as_str(), files),
+        _ => unreachable!(),
+    }
+}
+
+// What `check` writes of these names, or why it writes nothing.
+fn run_check<F: Files>(alloc: Global, names: &[String], files: &mut F) -> Result<Text8, Status>
+    ensures same { F.told files.new ≡ F.told files.old }
+    ensures ready { IfOk result (λ text. WhereTold (F.told files.old) (λ held. Gives (check_names (map string_bytes names.now)) held Status.Done text held)) }
+    ensures refused { IfErr result (Refused (UsageRefused (check_names (map string_bytes names.now))) (check_names (map string_bytes names.now)) (F.told files.old)
+        (counts (F.absents files.old) (F.read_faults files.old) (F.oversizes files.old))
+        (counts (F.absents files.new) (F.read_faults files.new) (F.oversizes files.new))) }
+{
+    if names.len() != 1 {
+        return Err(Status::Usage(3));
+    }
+    match names {
+        [source] => check(alloc, source.as_str(), files),
+        _ => unreachable!(),
+    }
+}
 
 // What a command writes, or why it writes nothing.
 fn prepare<F: Files>(alloc: Global, words: &[String], files: &mut F) -> Result<Text8, Status>
@@ -22,18 +59,20 @@ fn prepare<F: Files>(alloc: Global, words: &[String], files: &mut F) -> Result<T
         (counts (F.absents files.new) (F.read_faults files.new) (F.oversizes files.new))) }
 {
     match words {
-        [command, expert, bars] if command.as_str() == "quick" => quick(
-            alloc,
-            expert.as_str(),
-            bars.as_str(),
-            files,
-        ),
-        [command, ..] if command.as_str() == "quick" => Err(Status::Usage(3)),
-        _ => Err(Status::Usage(2)),
+        [] => Err(Status::Usage(2)),
+        [command, names @ ..] => {
+            if command.as_str() == "quick" {
+                return run_quick(alloc, names, files);
+            }
+            if command.as_str() == "check" {
+                return run_check(alloc, names, files);
+            }
+            Err(Status::Usage(2))
+        }
     }
 }
 
-/// What the program does for `quick`: it reads and judges the words and the files, and writes the answer to the sink. It
+/// What the program does for `quick` and `check`: it reads and judges the words and the files, and writes the answer to the sink. It
 /// returns for every input.
 ///
 /// The clauses speak of the plan of the words (`plan_of`), over what the files told at entry and what the sink tells.
@@ -75,6 +114,8 @@ pub fn run_single<F: Files, S: Sink>(
         HasDone (plan_of (map string_bytes words.now)) held → ¬ Rose (F.read_faults files.old) (F.read_faults files.new)
         → ¬ Rose (S.write_faults out.old) (S.write_faults out.new) → IsDoneOrMemory result)) }
 {
+    files_have_one_answer();
+    tokens_have_one_answer();
     match prepare(alloc, words, files) {
         Err(status) => status,
         Ok(text) => match write_whole(out, text.as_slice()) {

@@ -17,7 +17,7 @@ use Rattle.tester_answer.specs.Clauses.{ReadCounts, NoneFell, IsReading, Reading
 use Rattle.tester_answer.proofs.PlanLemmas.{Leads, leads_same, leads_on, leads_reading, leads_finding, leads_never, leads_both_read, leads_both_find, refused_here, refused_on}
 use Rattle.tester_answer.proofs.OneStatus.{OneStatus, refuses_one, reads_one, finds_one}
 use Rattle.tester_sources.specs.Faults.{text_fault, source_fault, TellsFault, TellsText, TellsRefusal}
-use Rattle.tester_sources.specs.Reading.{source_limit, most_files, Tokens, source, never, with_text, with_tokens, sources_plan, program_plan, ReadInTurn, none, needed, IsSource, NeedMet, Refusing, FilesRefused, TextRefused, file_plan}
+use Rattle.tester_sources.specs.Reading.{source_limit, most_files, Tokens, source, never, with_text, with_tokens, sources_plan, program_plan, ReadInTurn, none, needed, IsSource, NeedMet, Refusing, FilesRefused, TextRefused, file_plan, OneAnswer}
 
 -- with a text that is there
 pub text_leads : (name : List ℕ) (r : Result (List ℕ) TextFault) (text : List ℕ) (next : List ℕ → Plan) (told : Option Contents) → r ≡ Ok text → Leads (with_text name r next) (next text) told
@@ -229,3 +229,18 @@ refusal_told entry sources OutOfMemory s is h = subst (FilesRefused entry source
 -- the file that is needed
 pub need_told : (entry : List ℕ) (sources : List Source) (fault : PreFault) (name : List ℕ) → Unless fault (Preprocesses entry sources (Err fault)) → fault ≡ Need name → Preprocesses entry sources (Err (Need name))
 need_told entry sources fault name is e = subst (λ fault. Unless fault (Preprocesses entry sources (Err fault))) e is
+
+never_one : OneStatus never
+never_one held s s' text text' after after' g g' = absurd g
+
+text_one : (name : List ℕ) (r : Result (List ℕ) TextFault) (next : List ℕ → Plan) → ((text : List ℕ) → OneStatus (next text)) → OneStatus (with_text name r next)
+text_one name (Ok text) next each = each text
+text_one name (Err fault) next each = refuses_one _
+
+pub sources_one : OneAnswer → (k : ℕ) (entry : List ℕ) (sources : List Source) (next : List Source → Tokens → Plan) → ((sources : List Source) (tokens : Tokens) → OneStatus (next sources tokens)) → OneStatus (sources_plan k entry sources next)
+sources_one one zero entry sources next each =
+    finds_one (Result Tokens PreFault) (Preprocesses entry sources) (with_tokens sources next (λ name. never)) (one entry sources) (tokens_one sources next (λ name. never) each (λ name. never_one))
+sources_one one (suc k) entry sources next each =
+    finds_one (Result Tokens PreFault) (Preprocesses entry sources) (with_tokens sources next (λ name. Reads name source_limit (λ bytes. with_text name (text_of bytes) (λ text. sources_plan k entry (sources ++ source name text ∷ []) next)))) (one entry sources)
+    (tokens_one sources next (λ name. Reads name source_limit (λ bytes. with_text name (text_of bytes) (λ text. sources_plan k entry (sources ++ source name text ∷ []) next))) each
+    (λ name. reads_one name source_limit (λ bytes. with_text name (text_of bytes) (λ text. sources_plan k entry (sources ++ source name text ∷ []) next)) (λ bytes. text_one name (text_of bytes) (λ text. sources_plan k entry (sources ++ source name text ∷ []) next) (λ text. sources_one one k entry (sources ++ source name text ∷ []) next each))))

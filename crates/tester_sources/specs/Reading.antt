@@ -87,6 +87,11 @@ abbrev pub IsWanted : List ℕ → List Source → Wanted → Type 0
 IsWanted entry sources (wanted.Tokens tokens) = Preprocesses entry sources (Ok tokens)
 IsWanted entry sources (wanted.File name) = Preprocesses entry sources (Err (Need name))
 
+-- tokens are no more than the parser takes
+abbrev pub FewTokens : Wanted → Type 0
+FewTokens (wanted.Tokens tokens) = length tokens ≤ 400000
+FewTokens (wanted.File name) = Unit {0}
+
 -- a fault that refuses a source, and asks for no file
 abbrev pub Refusing : PreFault → Type 0
 Refusing (Need name) = ⊥
@@ -108,3 +113,7 @@ TextRefused name bytes _ = ⊥
 -- the reading of one file
 abbrev pub file_plan : List ℕ → Plan
 file_plan name = Reads name source_limit (λ bytes. with_text name (text_of bytes) (λ text. never))
+
+-- files with an entry have one answer of preprocessing
+abbrev pub OneAnswer : Type 0
+OneAnswer = (entry : List ℕ) (sources : List Source) (a b : Result Tokens PreFault) → Preprocesses entry sources a → Preprocesses entry sources b → a ≡ b

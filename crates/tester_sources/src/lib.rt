@@ -2,6 +2,8 @@
 #![tactic(auto)]
 
 mod fault;
+mod judging;
 mod reading;
 
-pub use reading::read_sources;
+pub use judging::{judge_form, judge_tree};
+pub use reading::{Wanted, make_wanted, read_sources};

@@ -1,10 +1,10 @@
 //! The files of a program, in the order of need, and its tokens.
-ghost use Rattle.std.specs.Prelude.{◌≡◌, ◌≤◌, ◌-◌, ℕ, Ok, length, All, IfOk, IfErr, MatchOption};
+ghost use Rattle.std.specs.Prelude.{◌≡◌, ◌≤◌, ◌-◌, ◌^◌, ℕ, Ok, length, All, IfOk, IfErr, IfSome, MatchOption};
 ghost use Rattle.mql_tree.specs.Text.{text_of};
 ghost use Rattle.mql_preproc.specs.Reading.{Preprocesses};
 ghost use Rattle.tester_io.specs.Outside.{WhereTold};
 ghost use Rattle.tester_answer.specs.Clauses.{counts, NoneFell, Refused, Never};
-ghost use Rattle.tester_sources.specs.Reading.{IsSource, IsWanted, FilesRefused, TextRefused, NeedMet, ReadInTurn, file_plan, sources_plan, program_plan, never};
+ghost use Rattle.tester_sources.specs.Reading.{IsSource, IsWanted, FewTokens, FilesRefused, TextRefused, NeedMet, ReadInTurn, file_plan, sources_plan, program_plan, never};
 
 use crate::fault::{refusal, text_status};
 use fx8::{Text, Text8};
@@ -30,11 +30,12 @@ pub enum Wanted {
     File(Text8),
 }
 
-// What preprocessing makes of the files so far, or the status that refuses them.
-fn next_wanted(alloc: Global, entry: &Text8, sources: &Sources) -> Result<Wanted, Status>
-    requires few { length sources.now ≤ 512 }
+/// What preprocessing makes of the files so far, or the status that refuses them.
+pub fn make_wanted(alloc: Global, entry: &Text8, sources: &Sources) -> Result<Wanted, Status>
+    requires few { length sources.now ≤ 2 ^ 32 }
     requires texts { All (λ s. length s.text ≤ 1048576) sources.now }
     ensures found { IfOk result (IsWanted entry.now sources.now) }
+    ensures few { IfOk result FewTokens }
     ensures refused { IfErr result (FilesRefused entry.now sources.now) }
 {
     match preprocess(alloc, entry, sources) {
@@ -87,13 +88,14 @@ fn turn<F: Files>(
         (counts (F.absents files.new) (F.read_faults files.new) (F.oversizes files.new)) }
     ensures read { IfOk result (λ found. MatchOption found (NeedMet entry.now (F.told files.old) sources.old sources.new)
         (λ tokens. (sources.new ≡ sources.old) × Preprocesses entry.now sources.old (Ok tokens))) }
+    ensures few { IfOk result (λ found. IfSome found (λ tokens. length tokens ≤ 400000)) }
     ensures still_few { IfOk result (λ found. length sources.new ≤ 512) }
     ensures still_short { IfOk result (λ found. All (λ s. length s.text ≤ 1048576) sources.new) }
     ensures refused { IfErr result (Refused Never (sources_plan (512 - length sources.old) entry.now sources.old (λ sources tokens. never)) (F.told files.old)
         (counts (F.absents files.old) (F.read_faults files.old) (F.oversizes files.old))
         (counts (F.absents files.new) (F.read_faults files.new) (F.oversizes files.new))) }
 {
-    let name = match next_wanted(alloc, entry, sources)? {
+    let name = match make_wanted(alloc, entry, sources)? {
         Wanted::Tokens(tokens) => return Ok(Some(tokens)),
         Wanted::File(name) => name,
     };
@@ -120,6 +122,7 @@ pub fn read_sources<F: Files>(
     ensures read { IfOk result (λ found. WhereTold (F.told files.old) (λ held. ReadInTurn entry.now held found.0)) }
     ensures tokens { IfOk result (λ found. Preprocesses entry.now found.0 (Ok found.1)) }
     ensures few { IfOk result (λ found. length found.0 ≤ 512) }
+    ensures short { IfOk result (λ found. length found.1 ≤ 400000) }
     ensures refused { IfErr result (Refused Never (program_plan entry.now (λ sources tokens. never)) (F.told files.old)
         (counts (F.absents files.old) (F.read_faults files.old) (F.oversizes files.old))
         (counts (F.absents files.new) (F.read_faults files.new) (F.oversizes files.new))) }

@@ -1,26 +1,54 @@
-use Rattle.std.proofs.lemmas.Result.{err_from_is_err_and, IfErr-weaker}
+use Rattle.std.proofs.lemmas.Result.{err_from_is_err_and, IfErr-weaker, IfOk-weaker}
+use Rattle.std.proofs.Common.{◌∙◌}
 use Rattle.tester_answer.specs.Clauses.{counts}
-use Rattle.tester_cli.proofs.RunLemmas.{source_refused, later_refused}
+use Rattle.tester_cli.specs.Commands.{quick_rest}
+use Rattle.tester_cli.proofs.RunLemmas.{sources_refused, behind_refused, program_refused, quick_leads, quick_refused}
 use Rattle.tester_cli.proofs.quick.quick.Goals as goal
 
-pub returns-in_err-source-clause-refused : goal.returns-in_err-source-clause-refused
-returns-in_err-source-clause-refused g c =
-    let p = err_from_is_err_and c.from_residual-in_err-source.result c.from_residual-in_err-source.ensures.1 in
+pub returns-in_err-sources-clause-refused : goal.returns-in_err-sources-clause-refused
+returns-in_err-sources-clause-refused g c =
+    let p = err_from_is_err_and c.from_residual-in_err-sources.result c.from_residual-in_err-sources.ensures.1 in
+    let r = rw c.in_ok-name.ensures at c.in_err-sources.ensures.refused in
     rw (p.1, p.2)
-    (source_refused c.args.expert.now c.args.bars.now (g.F.Files.told c.args.files.now)
+    (sources_refused c.args.expert.now (quick_rest c.args.expert.now c.args.bars.now) (g.F.Files.told c.args.files.now)
     (counts (g.F.Files.absents c.args.files.now) (g.F.Files.read_faults c.args.files.now) (g.F.Files.oversizes c.args.files.now))
-    (counts (g.F.Files.absents c.read.new.files) (g.F.Files.read_faults c.read.new.files) (g.F.Files.oversizes c.read.new.files))
-    _ c.in_ok-name.name c.in_ok-name.ensures c.in_err-source.ensures.refused)
+    (counts (g.F.Files.absents c.read_sources.new.files) (g.F.Files.read_faults c.read_sources.new.files) (g.F.Files.oversizes c.read_sources.new.files))
+    _ r)
+
+pub returns-in_err-program-clause-refused : goal.returns-in_err-program-clause-refused
+returns-in_err-program-clause-refused g c =
+    let p = err_from_is_err_and c.from_residual-in_err-program.result c.from_residual-in_err-program.ensures.1 in
+    let turns = rw c.in_ok-name.ensures at c.in_ok-sources.ensures.read in
+    let makes = rw c.in_ok-name.ensures at c.in_ok-sources.ensures.tokens in
+    let refused = rw c.in_ok-name.ensures at c.in_err-program.ensures.refused in
+    let now = counts (g.F.Files.absents c.read_sources.new.files) (g.F.Files.read_faults c.read_sources.new.files) (g.F.Files.oversizes c.read_sources.new.files) in
+    rw (p.1, p.2)
+    (behind_refused c.args.expert.now c.in_ok-sources.sources c.in_ok-sources.tokens (quick_rest c.args.expert.now c.args.bars.now) (g.F.Files.told c.args.files.now) (g.F.Files.told c.read_sources.new.files)
+    (counts (g.F.Files.absents c.args.files.now) (g.F.Files.read_faults c.args.files.now) (g.F.Files.oversizes c.args.files.now)) now now
+    _ turns c.in_ok-sources.ensures.few makes c.in_ok-sources.ensures.none_fell c.in_ok-sources.ensures.same
+    (program_refused c.args.expert.now c.args.bars.now c.in_ok-sources.sources c.in_ok-sources.tokens (g.F.Files.told c.read_sources.new.files) now now _ refused))
+
+pub returns-clause-ready : goal.returns-clause-ready
+returns-clause-ready g c =
+    let turns = rw c.in_ok-name.ensures at c.in_ok-sources.ensures.read in
+    let makes = rw c.in_ok-name.ensures at c.in_ok-sources.ensures.tokens in
+    let p = c.in_ok-program.ensures.program in
+    IfOk-weaker c.over_bars.result _ _
+    (λ text ready held is.
+    (quick_leads c.args.expert.now c.args.bars.now c.in_ok-sources.sources c.in_ok-sources.tokens (g.F.Files.told c.args.files.now) c.in_ok-program.program p turns c.in_ok-sources.ensures.few makes).gives held is _ text held
+    (ready p.checked p.follows held (c.in_ok-sources.ensures.same ∙ is)))
+    c.over_bars.ensures.ready
 
 pub returns-clause-refused : goal.returns-clause-refused
 returns-clause-refused g c =
-    let of = rw c.as_slice.ensures at c.in_ok-program.ensures.program in
+    let turns = rw c.in_ok-name.ensures at c.in_ok-sources.ensures.read in
+    let makes = rw c.in_ok-name.ensures at c.in_ok-sources.ensures.tokens in
+    let p = c.in_ok-program.ensures.program in
     IfErr-weaker c.over_bars.result _ _
     (λ status refused.
-    later_refused c.args.expert.now c.args.bars.now of.checked (g.F.Files.told c.args.files.now) (g.F.Files.told c.read.new.files)
+    quick_refused c.args.expert.now c.args.bars.now c.in_ok-sources.sources c.in_ok-sources.tokens (g.F.Files.told c.args.files.now) (g.F.Files.told c.read_sources.new.files)
     (counts (g.F.Files.absents c.args.files.now) (g.F.Files.read_faults c.args.files.now) (g.F.Files.oversizes c.args.files.now))
-    (counts (g.F.Files.absents c.read.new.files) (g.F.Files.read_faults c.read.new.files) (g.F.Files.oversizes c.read.new.files))
+    (counts (g.F.Files.absents c.read_sources.new.files) (g.F.Files.read_faults c.read_sources.new.files) (g.F.Files.oversizes c.read_sources.new.files))
     (counts (g.F.Files.absents c.over_bars.new.files) (g.F.Files.read_faults c.over_bars.new.files) (g.F.Files.oversizes c.over_bars.new.files))
-    status c.in_ok-name.name c.in_ok-source.source c.in_ok-name.ensures c.in_ok-source.ensures.read c.in_ok-source.ensures.none_fell
-    c.in_ok-source.ensures.same of.source (refused of.checked))
+    status c.in_ok-program.program p turns c.in_ok-sources.ensures.few makes c.in_ok-sources.ensures.none_fell c.in_ok-sources.ensures.same (refused p.checked))
     c.over_bars.ensures.refused

@@ -10,7 +10,7 @@ pub returns-in-Err-clause-complete : goal.returns-in-Err-clause-complete
 returns-in-Err-clause-complete g c =
     let words = map string_bytes c.args.words.now in
     λ held told before told_sink has quiet still.
-    done_or_memory (plan_of words) (plan_one words) held has (g.F.Files.told c.args.files.now)
+    done_or_memory (plan_of words) (plan_one c.one_answer.ensures.same c.one_answer-2.ensures words) held has (g.F.Files.told c.args.files.now)
     (counts (g.F.Files.absents c.args.files.now) (g.F.Files.read_faults c.args.files.now) (g.F.Files.oversizes c.args.files.now))
     (counts (g.F.Files.absents c.prepare.new.files) (g.F.Files.read_faults c.prepare.new.files) (g.F.Files.oversizes c.prepare.new.files))
     c.in-Err.status told quiet c.in-Err.ensures.refused

@@ -1,0 +1,31 @@
+//! `check SOURCE`: the stages that are built so far judge a source.
+ghost use Rattle.std.specs.Prelude.{◌≡◌, IfOk, IfErr};
+ghost use Rattle.tester_io.specs.Outside.{WhereTold};
+ghost use Rattle.tester_answer.specs.Answer.{Gives};
+ghost use Rattle.tester_answer.specs.Clauses.{counts, Refused, Never};
+ghost use Rattle.tester_cli.specs.Commands.{check_plan};
+
+use crate::quick::named;
+use fx8::Text8;
+use std::alloc::Global;
+use tester_answer::Status;
+use tester_io::Files;
+use tester_sources::{judge_tree, read_sources};
+
+/// What is written of a source in which no stage so far finds a fault.
+const OK: [u8; 3] = *b"ok\n";
+
+/// `ok` where the stages that are built so far find no fault in the source, or why not.
+pub fn check<F: Files>(alloc: Global, entry: &str, files: &mut F) -> Result<Text8, Status>
+    ensures same { F.told files.new ≡ F.told files.old }
+    ensures ready { IfOk result (λ text. WhereTold (F.told files.old) (λ held. Gives (check_plan entry.now) held Status.Done text held)) }
+    ensures refused { IfErr result (Refused Never (check_plan entry.now) (F.told files.old)
+        (counts (F.absents files.old) (F.read_faults files.old) (F.oversizes files.old))
+        (counts (F.absents files.new) (F.read_faults files.new) (F.oversizes files.new))) }
+{
+    let name = named(alloc, entry)?;
+    let (sources, tokens) = read_sources(alloc, &name, files)?;
+    let _tree = judge_tree(alloc, &name, &sources, &tokens)?;
+    let text = Text8::from_slice(alloc, OK.as_slice())?;
+    Ok(text)
+}
