@@ -236,6 +236,7 @@ module _ (g : Grammar) (law : Lawful g) (f mark : ℕ) (plain : Plain g f) (l : 
           ⊎_elim (λ lt. absurd (read_fault before [] st e m (subst (λ ks. Refuses g f mark l ks e) (sym (append_nil before)) r) lt))
           (λ ge. at_mark e r (let le = within e r in omega (arith, ge, le)) (end_of (length before) (step g mark st)) (end_ok g law f mark plain l before st (step g mark st) m refl) (λ p is. syntax_end (step g mark st) p is))
           (cases_lt (place_of e) (length before))
+
   -- an exact answer leads past the next token, or is the machine's there
   past_or_there : (before : List ℕ) (k : ℕ) (ks : List ℕ) (st : State) (a : Answer) → Mid g f l before st → Exact g f mark l (before ++ k ∷ ks) a → Onward g l k st ⊎ Is before (k ∷ ks) st a
   past_or_there before k ks st (tree t) m x = inl (tree_onward before k ks st t m x.0 x.1)

@@ -4,13 +4,12 @@ ghost use Rattle.tester_cli.specs.Compiling.{IsProgramOf, Compiles, ProgramRefus
 
 use fx8::{OutOfMemory, Text8};
 use mql_lower::lower;
+pub use mql_preproc::{Source, Sources};
 use mql_tree::Tokens;
 use stack_vm::Program;
 use std::alloc::Global;
 use tester_answer::{SourceFault, Status};
 use tester_sources::{Wanted, judge_form, judge_tree, make_wanted};
-
-pub use mql_preproc::{Source, Sources};
 
 /// Why sources do not compile.
 #[derive(Debug, Drop)]

@@ -91,9 +91,30 @@ pub fn judge_tree(
 {
     match parse(alloc, tokens) {
         Ok(tree) => Ok(tree),
-        Err(ParseFault::Syntax(place)) => Err(placed(alloc, entry, sources, 4, 1, span_near(tokens, place))),
-        Err(ParseFault::Depth(place)) => Err(placed(alloc, entry, sources, 4, 2, span_near(tokens, place))),
-        Err(ParseFault::Nodes(place)) => Err(placed(alloc, entry, sources, 4, 3, span_near(tokens, place))),
+        Err(ParseFault::Syntax(place)) => Err(placed(
+            alloc,
+            entry,
+            sources,
+            4,
+            1,
+            span_near(tokens, place),
+        )),
+        Err(ParseFault::Depth(place)) => Err(placed(
+            alloc,
+            entry,
+            sources,
+            4,
+            2,
+            span_near(tokens, place),
+        )),
+        Err(ParseFault::Nodes(place)) => Err(placed(
+            alloc,
+            entry,
+            sources,
+            4,
+            3,
+            span_near(tokens, place),
+        )),
         Err(ParseFault::OutOfMemory) => Err(Status::OutOfMemory),
     }
 }
@@ -112,7 +133,14 @@ pub fn judge_form(
 {
     match read_level(alloc, tokens, tree) {
         Ok(checked) => Ok(checked),
-        Err(LevelFault::Form(place)) => Err(placed(alloc, entry, sources, 7, 1, span_among(tokens, place))),
+        Err(LevelFault::Form(place)) => Err(placed(
+            alloc,
+            entry,
+            sources,
+            7,
+            1,
+            span_among(tokens, place),
+        )),
         Err(LevelFault::OutOfMemory) => Err(Status::OutOfMemory),
     }
 }

@@ -14,6 +14,8 @@ mod quick;
 #[cfg(test)]
 mod rows;
 #[cfg(test)]
+mod sources;
+#[cfg(test)]
 mod statuses;
 #[cfg(test)]
 mod tokens;

@@ -2,7 +2,7 @@
 use fx8::{Numbers, Text8};
 use std::alloc::Global;
 use std::test::Fail;
-use tester_answer::{Status, fault_text, run_single};
+use tester_cli::{fault_text, run_single};
 use tester_io::{MemFiles, MemSink};
 
 /// Prints two strings at each bar.

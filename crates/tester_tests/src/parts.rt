@@ -2,6 +2,7 @@
 use crate::outside::{BARS, EXPERT, files, run, sink};
 use fx8::{Text, Text8};
 use market_data::read_bars;
+use mql_preproc::all_short;
 use stack_vm::{End, Entry, Machine, Program};
 use std::alloc::Global;
 use std::test::Fail;
@@ -22,10 +23,12 @@ fn compiled(alloc: Global, source: &[u8]) -> Result<Option<Program>, Fail> {
         name: Text8::from_slice(alloc, b"a.mq5")?,
         text,
     })?;
+    if !all_short(&sources) {
+        return Err("too long".into());
+    }
     match compile(alloc, &name, &sources) {
         Ok(program) => Ok(Some(program)),
-        Err(CompileFault::Source(fault))
-            if fault.stage == 7 && fault.rule == 1 && fault.line == 1 => Ok(None),
+        Err(CompileFault::Source(fault)) if fault.rule == 1 && fault.line == 1 => Ok(None),
         Err(_) => Err("another fault".into()),
     }
 }

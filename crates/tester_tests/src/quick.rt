@@ -3,7 +3,7 @@ use crate::outside::{BARS, EXPERT, REPORT, files, run, sink, words};
 use fx8::Text8;
 use std::alloc::Global;
 use std::test::Fail;
-use tester_answer::{Status, run_single};
+use tester_cli::{Status, run_single};
 use tester_io::{CalmFiles, CalmSink};
 
 /// The names and bytes of a run that is done.
@@ -62,7 +62,7 @@ fn tells_the_first_fault_of_words_and_files(rt: HostRuntime) -> Result<(), Fail>
             &LINE,
             &[(b"a.mq5", b"void OnTick(){}\n\xe9"), (b"bars.csv", BARS)],
             &[],
-            b"error 2 7 1 a.mq5 1\n",
+            b"error 2 1 1 a.mq5 0\n",
         ),
         (&LINE, &[(b"a.mq5", EXPERT)], &[], b"error 7 bars.csv\n"),
         (&LINE, &HELD, &[1], b"error 8 bars.csv\n"),
@@ -76,7 +76,7 @@ fn tells_the_first_fault_of_words_and_files(rt: HostRuntime) -> Result<(), Fail>
             &["quick", "bars.csv", "a.mq5"],
             &HELD,
             &[],
-            b"error 2 7 1 bars.csv 1\n",
+            b"error 2 4 1 bars.csv 1\n",
         ),
         (
             &["quick", "a.mq5", "a.mq5"],

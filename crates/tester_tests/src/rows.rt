@@ -113,9 +113,9 @@ const ENDED: [(&[u8], &[u8]); 11] = [
         b"void OnTick(){Print(2147483648);}",
         b"error 2 7 1 a.mq5 1\n",
     ),
-    (b"void OnTick(){/* open", b"error 2 7 1 a.mq5 1\n"),
+    (b"void OnTick(){/* open", b"error 2 2 4 a.mq5 1\n"),
     (b"void OnTick(){if(true)int a=1;}", b"error 2 7 1 a.mq5 1\n"),
-    (b"void OnTick(){int while=1;}", b"error 2 7 1 a.mq5 1\n"),
+    (b"void OnTick(){int while=1;}", b"error 2 4 1 a.mq5 1\n"),
     (
         b"void OnTick(){int a=1;{int a=2;}}",
         b"error 2 7 1 a.mq5 1\n",

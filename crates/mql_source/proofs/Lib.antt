@@ -1,9 +1,0 @@
-pub mod Before
-pub mod Joins
-pub mod Lists
-pub mod Numbers
-pub mod Readers
-pub mod Recursive
-pub mod Steps
-pub mod Fits
-pub mod Typed
