@@ -1,16 +1,30 @@
 -- The forms of nodes and the signs, by their numbers.
 use Rattle.std.specs.Prelude.{ℕ, ◌==◌, nat_le, ◌&&◌, if◌then◌else◌}
+use Rattle.mql_grammar.specs.Numbers.{form_number}
+use Rattle.mql_grammar.specs.declared.node_form.Form.TheVariants as form
 use Rattle.mql_level.specs.declared.form.NodeKind.{NodeKind}
 use Rattle.mql_level.specs.declared.form.NodeKind.TheVariants.{Program, Item, Block, Empty, Simple, If, While, OtherStatement, Bracket, Call, Unary, Product, Sum, Relation, Equality, Assignment, Other}
 
 -- the kind of a node by the number of its form (own)
 unfoldable pub node_kind : ℕ → NodeKind
-node_kind form =
-    if form == 1 then Program else if form == 2 then Item
-    else if form == 9 then Block else if form == 10 then Empty else if form == 11 then Simple else if form == 12 then If else if form == 13 then While
-    else if nat_le 14 form && nat_le form 20 then OtherStatement
-    else if form == 22 then Bracket else if form == 29 then Call else if form == 31 then Unary else if form == 32 then Product else if form == 33 then Sum
-    else if form == 35 then Relation else if form == 36 then Equality else if form == 43 then Assignment else Other
+node_kind number =
+    if number == form_number form.Program then Program
+    else if number == form_number form.Item then Item
+    else if number == form_number form.Block then Block
+    else if number == form_number form.Empty then Empty
+    else if number == form_number form.Simple then Simple
+    else if number == form_number form.If then If
+    else if number == form_number form.While then While
+    else if nat_le (form_number form.Do) number && nat_le number (form_number form.Delete) then OtherStatement
+    else if number == form_number form.Bracket then Bracket
+    else if number == form_number form.Call then Call
+    else if number == form_number form.Unary then Unary
+    else if number == form_number form.Product then Product
+    else if number == form_number form.Sum then Sum
+    else if number == form_number form.Relation then Relation
+    else if number == form_number form.Equality then Equality
+    else if number == form_number form.Assignment then Assignment
+    else Other
 
 -- signs, by their numbers in the list of signs (MQL5 Reference, Language Basics, Operations and Expressions)
 abbrev pub open_round : ℕ

@@ -3,6 +3,8 @@ ghost use Rattle.std.specs.Prelude.{◌≡◌};
 ghost use Rattle.mql_level.specs.Forms.{node_kind};
 ghost use Rattle.mql_level.specs.Leaves.{states};
 
+use mql_grammar::Form;
+
 /// What the node of a form is, as far as this level tells them apart.
 #[derive(Clone, Copy, Debug, PartialEq, Eq)]
 pub enum NodeKind {
@@ -33,37 +35,37 @@ pub enum NodeKind {
 pub fn node_kind(form: u8) -> NodeKind
     ensures { result ≡ node_kind form }
 {
-    if form == 1 {
+    if form == Form::Program.number() {
         NodeKind::Program
-    } else if form == 2 {
+    } else if form == Form::Item.number() {
         NodeKind::Item
-    } else if form == 9 {
+    } else if form == Form::Block.number() {
         NodeKind::Block
-    } else if form == 10 {
+    } else if form == Form::Empty.number() {
         NodeKind::Empty
-    } else if form == 11 {
+    } else if form == Form::Simple.number() {
         NodeKind::Simple
-    } else if form == 12 {
+    } else if form == Form::If.number() {
         NodeKind::If
-    } else if form == 13 {
+    } else if form == Form::While.number() {
         NodeKind::While
-    } else if 14 <= form && form <= 20 {
+    } else if Form::Do.number() <= form && form <= Form::Delete.number() {
         NodeKind::OtherStatement
-    } else if form == 22 {
+    } else if form == Form::Bracket.number() {
         NodeKind::Bracket
-    } else if form == 29 {
+    } else if form == Form::Call.number() {
         NodeKind::Call
-    } else if form == 31 {
+    } else if form == Form::Unary.number() {
         NodeKind::Unary
-    } else if form == 32 {
+    } else if form == Form::Product.number() {
         NodeKind::Product
-    } else if form == 33 {
+    } else if form == Form::Sum.number() {
         NodeKind::Sum
-    } else if form == 35 {
+    } else if form == Form::Relation.number() {
         NodeKind::Relation
-    } else if form == 36 {
+    } else if form == Form::Equality.number() {
         NodeKind::Equality
-    } else if form == 43 {
+    } else if form == Form::Assignment.number() {
         NodeKind::Assignment
     } else {
         NodeKind::Other
