@@ -2,6 +2,8 @@
 #![tactic(auto)]
 
 #[cfg(test)]
+mod experts;
+#[cfg(test)]
 mod lists;
 #[cfg(test)]
 mod lowering;
