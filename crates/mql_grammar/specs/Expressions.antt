@@ -132,9 +132,13 @@ type_arguments = in_order (type_name ∷ maybe (a class.Star) ∷ many (in_order
 abbrev pub init : Expression
 init = one_of (expr ∷ a_node form.Braces ∷ [])
 
+-- "[" [expr] "]"
+abbrev pub dim : Expression
+dim = in_order (a class.OpenBracket ∷ maybe expr ∷ a class.CloseBracket ∷ [])
+
 -- {"[" [expr] "]"}
 abbrev pub dims : Expression
-dims = many (in_order (a class.OpenBracket ∷ maybe expr ∷ a class.CloseBracket ∷ []))
+dims = many dim
 
 -- ["=" init]
 abbrev pub initial : Expression
@@ -146,7 +150,7 @@ given = maybe (in_order (a class.Assign ∷ expr ∷ []))
 
 -- var = ["*"] [NAME "::"] NAME {"[" [expr] "]"} ["=" init | "(" [args] ")"]: what comes behind the name
 abbrev pub var_end : Expression
-var_end = one_of (in_order (dims ∷ initial ∷ []) ∷ in_order (a class.OpenParen ∷ maybe args ∷ a class.CloseParen ∷ []) ∷ [])
+var_end = in_order (dims ∷ one_of (initial ∷ in_order (a class.OpenParen ∷ maybe args ∷ a class.CloseParen ∷ []) ∷ []) ∷ [])
 
 -- [NAME "::"] NAME
 abbrev pub var_name : Expression
@@ -197,9 +201,9 @@ function_only = in_order (a class.OpenParen ∷ params_on ∷ [])
 abbrev pub rest_of_vars : Expression
 rest_of_vars = in_order (more_vars ∷ a class.Semicolon ∷ [])
 
--- variables go on
+-- variables go on: behind a dimension as any variable does, directly behind the name with no `(`
 abbrev pub vars_on : Expression
-vars_on = in_order (dims ∷ initial ∷ rest_of_vars ∷ [])
+vars_on = in_order (one_of (initial ∷ in_order (dim ∷ var_end ∷ []) ∷ []) ∷ rest_of_vars ∷ [])
 
 -- variables or a function go on
 abbrev pub either_on : Expression

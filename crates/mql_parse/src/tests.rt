@@ -43,6 +43,12 @@ fn texts(rt: HostRuntime) -> Result<(), Fail> {
             "Ok",
         ),
         ("int group = typename;", "Ok"),
+        (
+            "class T {}; void f() { int a[3](1), b[2][2] = {1}; T c[2](1, 2); }",
+            "Ok",
+        ),
+        ("int a[3](1), *b;", "Ok"),
+        ("int a[3](int x);", "Syntax(7)"),
         ("float x;", "Syntax(0)"),
         ("int x = a operator b;", "Syntax(4)"),
         ("# x", "Syntax(0)"),
