@@ -132,17 +132,9 @@ type_arguments = in_order (type_name ∷ maybe (a class.Star) ∷ many (in_order
 abbrev pub init : Expression
 init = one_of (expr ∷ a_node form.Braces ∷ [])
 
--- "[" [expr] "]"
-abbrev pub dim : Expression
-dim = in_order (a class.OpenBracket ∷ maybe expr ∷ a class.CloseBracket ∷ [])
-
 -- {"[" [expr] "]"}
 abbrev pub dims : Expression
-dims = many dim
-
--- ["=" init]
-abbrev pub initial : Expression
-initial = maybe (in_order (a class.Assign ∷ init ∷ []))
+dims = many (in_order (a class.OpenBracket ∷ maybe expr ∷ a class.CloseBracket ∷ []))
 
 -- ["=" expr]
 abbrev pub given : Expression
@@ -150,7 +142,8 @@ given = maybe (in_order (a class.Assign ∷ expr ∷ []))
 
 -- var = ["*"] [NAME "::"] NAME {"[" [expr] "]"} ["=" init | "(" [args] ")"]: what comes behind the name
 abbrev pub var_end : Expression
-var_end = in_order (dims ∷ one_of (initial ∷ in_order (a class.OpenParen ∷ maybe args ∷ a class.CloseParen ∷ []) ∷ []) ∷ [])
+var_end = in_order (dims ∷ maybe (one_of (
+    in_order (a class.Assign ∷ init ∷ []) ∷ in_order (a class.OpenParen ∷ maybe args ∷ a class.CloseParen ∷ []) ∷ [])) ∷ [])
 
 -- [NAME "::"] NAME
 abbrev pub var_name : Expression
@@ -186,7 +179,7 @@ function_end = in_order (
     maybe (in_order (a class.Colon ∷ list_of base ∷ [])) ∷ maybe (a class.Override) ∷
     one_of (a_node form.Block ∷ a class.Semicolon ∷ in_order (a class.Assign ∷ a class.Zero ∷ a class.Semicolon ∷ []) ∷ []) ∷ [])
 
--- params ")" and what comes behind, and the same with "(" before
+-- params ")" and what comes behind
 abbrev pub params_on : Expression
 params_on = one_of (
     in_order (a class.CloseParen ∷ function_end ∷ []) ∷
@@ -196,31 +189,6 @@ params_on = one_of (
 -- "(" params ")" and what comes behind
 abbrev pub function_only : Expression
 function_only = in_order (a class.OpenParen ∷ params_on ∷ [])
-
--- Variables and functions begin alike. Behind a name: only variables go on, or `(` is of both.
-abbrev pub rest_of_vars : Expression
-rest_of_vars = in_order (more_vars ∷ a class.Semicolon ∷ [])
-
--- variables go on: behind a dimension as any variable does, directly behind the name with no `(`
-abbrev pub vars_on : Expression
-vars_on = in_order (one_of (initial ∷ in_order (dim ∷ var_end ∷ []) ∷ []) ∷ rest_of_vars ∷ [])
-
--- variables or a function go on
-abbrev pub either_on : Expression
-either_on = in_order (a class.OpenParen ∷ one_of (
-    params_on ∷
-    in_order (a class.CloseParen ∷ a class.Comma ∷ var ∷ more_vars ∷ a class.Semicolon ∷ []) ∷
-    in_order (args ∷ a class.CloseParen ∷ rest_of_vars ∷ []) ∷ []) ∷ [])
-
--- type var {"," var} ";" or a function that has a type
-abbrev pub typed : Expression
-typed = in_order (type_name ∷ maybe (a class.Star) ∷ one_of (
-    in_order (name ∷ one_of (
-    vars_on ∷ either_on ∷
-    in_order (a class.DoubleColon ∷ one_of (
-    in_order (name ∷ one_of (vars_on ∷ either_on ∷ []) ∷ []) ∷
-    in_order (a class.Tilde ∷ name ∷ function_only ∷ []) ∷ []) ∷ []) ∷ []) ∷ []) ∷
-    in_order (a class.Tilde ∷ name ∷ function_only ∷ []) ∷ []) ∷ [])
 
 -- type var {"," var} ";"
 abbrev pub typed_vars : Expression
@@ -242,13 +210,13 @@ typed_function = in_order (type_name ∷ maybe (a class.Star) ∷ scoped ∷ fun
 abbrev pub untyped : Expression
 untyped = in_order (scoped ∷ function_name ∷ function_only ∷ [])
 
--- variables or a function
-abbrev pub both_kinds : Expression
-both_kinds = one_of (typed ∷ untyped ∷ [])
-
 -- a function
 abbrev pub function : Expression
 function = one_of (typed_function ∷ untyped ∷ [])
+
+-- variables or a function: they begin alike, and some parts are of both
+abbrev pub both_kinds : Expression
+both_kinds = one_of (typed_vars ∷ function ∷ [])
 
 -- {"virtual" | "static" | "const"} and a function
 abbrev pub modified : Expression
