@@ -214,10 +214,6 @@ untyped = in_order (scoped ∷ function_name ∷ function_only ∷ [])
 abbrev pub function : Expression
 function = one_of (typed_function ∷ untyped ∷ [])
 
--- variables or a function: they begin alike, and some parts are of both
-abbrev pub both_kinds : Expression
-both_kinds = one_of (typed_vars ∷ function ∷ [])
-
 -- {"virtual" | "static" | "const"} and a function
 abbrev pub modified : Expression
 modified = in_order (many (a_token (class.Static ∷ class.Const ∷ class.Virtual ∷ [])) ∷ function ∷ [])
@@ -230,14 +226,12 @@ template_head = in_order (a class.Template ∷ a class.Less ∷ a class.Typename
 abbrev pub program_parts : Expression
 program_parts = in_order (many (one (class.Semicolon ∷ []) (form.Item ∷ form.Template ∷ form.Enumeration ∷ form.Class ∷ [])) ∷ a class.EndMark ∷ [])
 
--- "input" "group" STRING [";"], or variables or a function with their modifiers
+-- "input" "group" STRING [";"], or {store} type var {"," var} ";", or func: the last two begin alike, and some parts are of both
 abbrev pub item_parts : Expression
 item_parts = one_of (
     in_order (a class.Input ∷ a class.Group ∷ a class.String ∷ maybe (a class.Semicolon) ∷ []) ∷
-    in_order (many (a_token (class.Static ∷ class.Const ∷ [])) ∷ one_of (
-    both_kinds ∷
-    in_order (a_token (class.Input ∷ class.StaticInput ∷ []) ∷ many (a_token (class.Input ∷ class.StaticInput ∷ class.Static ∷ class.Const ∷ [])) ∷ typed_vars ∷ []) ∷
-    in_order (a class.Virtual ∷ modified ∷ []) ∷ []) ∷ []) ∷ [])
+    in_order (many (a_token (class.Input ∷ class.StaticInput ∷ class.Static ∷ class.Const ∷ [])) ∷ typed_vars ∷ []) ∷
+    modified ∷ [])
 
 -- tmpl class | tmpl func
 abbrev pub template_parts : Expression
@@ -266,14 +260,8 @@ class_parts = in_order (a class.Kind ∷ name ∷ one_of (
 -- ["static"] ["const"] type var {"," var} ";" | [tmpl] func
 abbrev pub member_parts : Expression
 member_parts = one_of (
-    both_kinds ∷
-    in_order (a class.Static ∷ one_of (
-    both_kinds ∷
-    in_order (a class.Const ∷ one_of (both_kinds ∷ in_order (a_token (class.Static ∷ class.Const ∷ class.Virtual ∷ []) ∷ modified ∷ []) ∷ []) ∷ []) ∷
-    in_order (a_token (class.Static ∷ class.Virtual ∷ []) ∷ modified ∷ []) ∷ []) ∷ []) ∷
-    in_order (a class.Const ∷ one_of (both_kinds ∷ in_order (a_token (class.Static ∷ class.Const ∷ class.Virtual ∷ []) ∷ modified ∷ []) ∷ []) ∷ []) ∷
-    in_order (a class.Virtual ∷ modified ∷ []) ∷
-    in_order (template_head ∷ modified ∷ []) ∷ [])
+    in_order (maybe (a class.Static) ∷ maybe (a class.Const) ∷ typed_vars ∷ []) ∷
+    in_order (maybe template_head ∷ modified ∷ []) ∷ [])
 
 -- block = "{" {stmt} "}"
 abbrev pub statement : Expression
