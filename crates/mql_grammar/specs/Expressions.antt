@@ -126,7 +126,7 @@ type_name = one (class.TypeName ∷ class.ClassTemplate ∷ class.SimpleType ∷
 
 -- targs = "<" type ["*"] {"," type ["*"]} ">"
 abbrev pub type_arguments : Expression
-type_arguments = in_order (type_name ∷ maybe (a class.Star) ∷ many (in_order (a class.Comma ∷ type_name ∷ maybe (a class.Star) ∷ [])) ∷ a class.Greater ∷ [])
+type_arguments = in_order (list_of (in_order (type_name ∷ maybe (a class.Star) ∷ [])) ∷ a class.Greater ∷ [])
 
 -- init = expr | "{" [init {"," init}] "}"
 abbrev pub init : Expression
@@ -140,87 +140,43 @@ dims = many (in_order (a class.OpenBracket ∷ maybe expr ∷ a class.CloseBrack
 abbrev pub given : Expression
 given = maybe (in_order (a class.Assign ∷ expr ∷ []))
 
--- var = ["*"] [NAME "::"] NAME {"[" [expr] "]"} ["=" init | "(" [args] ")"]: what comes behind the name
-abbrev pub var_end : Expression
-var_end = in_order (dims ∷ maybe (one_of (
+-- [NAME "::"]
+abbrev pub scoped : Expression
+scoped = maybe (in_order (name ∷ a class.DoubleColon ∷ []))
+
+-- var = ["*"] [NAME "::"] NAME {"[" [expr] "]"} ["=" init | "(" [args] ")"]
+abbrev pub var : Expression
+var = in_order (maybe (a class.Star) ∷ scoped ∷ name ∷ dims ∷ maybe (one_of (
     in_order (a class.Assign ∷ init ∷ []) ∷ in_order (a class.OpenParen ∷ maybe args ∷ a class.CloseParen ∷ []) ∷ [])) ∷ [])
 
--- [NAME "::"] NAME
-abbrev pub var_name : Expression
-var_name = one_of (name ∷ in_order (name ∷ a class.DoubleColon ∷ name ∷ []) ∷ [])
+-- type var {"," var}
+abbrev pub variables : Expression
+variables = in_order (type_name ∷ list_of var ∷ [])
 
--- one variable
-abbrev pub var : Expression
-var = in_order (maybe (a class.Star) ∷ var_name ∷ var_end ∷ [])
-
--- {"," var}
-abbrev pub more_vars : Expression
-more_vars = many (in_order (a class.Comma ∷ var ∷ []))
-
--- var {"," var}
-abbrev pub vars : Expression
-vars = in_order (var ∷ more_vars ∷ [])
-
--- param = ["const"] type ["*"] ["&"] NAME {"[" [expr] "]"} ["=" expr]: what comes behind the type
-abbrev pub param_end : Expression
-param_end = in_order (maybe (a class.Star) ∷ maybe (a class.Ampersand) ∷ name ∷ dims ∷ given ∷ [])
-
--- one parameter
+-- param = ["const"] type ["*"] ["&"] NAME {"[" [expr] "]"} ["=" expr]
 abbrev pub param : Expression
-param = in_order (maybe (a class.Const) ∷ type_name ∷ param_end ∷ [])
+param = in_order (maybe (a class.Const) ∷ type_name ∷ maybe (a class.Star) ∷ maybe (a class.Ampersand) ∷ name ∷ dims ∷ given ∷ [])
+
+-- params = ["void" | param {"," param}]
+abbrev pub params : Expression
+params = maybe (one_of (a class.Void ∷ list_of param ∷ []))
 
 -- base = NAME "(" [args] ")"
 abbrev pub base : Expression
 base = in_order (name ∷ a class.OpenParen ∷ maybe args ∷ a class.CloseParen ∷ [])
 
--- what comes behind the parameters: [":" base {"," base}] ["override"] (block | ";" | "=" "0" ";")
-abbrev pub function_end : Expression
-function_end = in_order (
+-- func = {"virtual" | "static" | "const"} [type ["*"]] [NAME "::"] ["~"] NAME
+--        "(" params ")" [":" base {"," base}] ["override"] (block | ";" | "=" "0" ";")
+abbrev pub function : Expression
+function = in_order (
+    many (a_token (class.Virtual ∷ class.Static ∷ class.Const ∷ [])) ∷ maybe (in_order (type_name ∷ maybe (a class.Star) ∷ [])) ∷
+    scoped ∷ maybe (a class.Tilde) ∷ name ∷ a class.OpenParen ∷ params ∷ a class.CloseParen ∷
     maybe (in_order (a class.Colon ∷ list_of base ∷ [])) ∷ maybe (a class.Override) ∷
     one_of (a_node form.Block ∷ a class.Semicolon ∷ in_order (a class.Assign ∷ a class.Zero ∷ a class.Semicolon ∷ []) ∷ []) ∷ [])
 
--- params ")" and what comes behind
-abbrev pub params_on : Expression
-params_on = one_of (
-    in_order (a class.CloseParen ∷ function_end ∷ []) ∷
-    in_order (a class.Void ∷ a class.CloseParen ∷ function_end ∷ []) ∷
-    in_order (param ∷ in_order (many (in_order (a class.Comma ∷ param ∷ [])) ∷ a class.CloseParen ∷ function_end ∷ []) ∷ []) ∷ [])
-
--- "(" params ")" and what comes behind
-abbrev pub function_only : Expression
-function_only = in_order (a class.OpenParen ∷ params_on ∷ [])
-
--- type var {"," var} ";"
-abbrev pub typed_vars : Expression
-typed_vars = in_order (type_name ∷ vars ∷ a class.Semicolon ∷ [])
-
--- func behind its modifiers, with a type or without
-abbrev pub function_name : Expression
-function_name = in_order (maybe (a class.Tilde) ∷ name ∷ [])
-
--- [NAME "::"]
-abbrev pub scoped : Expression
-scoped = maybe (in_order (name ∷ a class.DoubleColon ∷ []))
-
--- a function that has a type
-abbrev pub typed_function : Expression
-typed_function = in_order (type_name ∷ maybe (a class.Star) ∷ scoped ∷ function_name ∷ function_only ∷ [])
-
--- a function that has none
-abbrev pub untyped : Expression
-untyped = in_order (scoped ∷ function_name ∷ function_only ∷ [])
-
--- a function
-abbrev pub function : Expression
-function = one_of (typed_function ∷ untyped ∷ [])
-
--- {"virtual" | "static" | "const"} and a function
-abbrev pub modified : Expression
-modified = in_order (many (a_token (class.Static ∷ class.Const ∷ class.Virtual ∷ [])) ∷ function ∷ [])
-
 -- tmpl = "template" "<" "typename" NAME {"," "typename" NAME} ">"
 abbrev pub template_head : Expression
-template_head = in_order (a class.Template ∷ a class.Less ∷ a class.Typename ∷ name ∷ many (in_order (a class.Comma ∷ a class.Typename ∷ name ∷ [])) ∷ a class.Greater ∷ [])
+template_head = in_order (a class.Template ∷ a class.Less ∷ list_of (in_order (a class.Typename ∷ name ∷ [])) ∷ a class.Greater ∷ [])
 
 -- program = {item}; a `;` may stand alone
 abbrev pub program_parts : Expression
@@ -230,12 +186,12 @@ program_parts = in_order (many (one (class.Semicolon ∷ []) (form.Item ∷ form
 abbrev pub item_parts : Expression
 item_parts = one_of (
     in_order (a class.Input ∷ a class.Group ∷ a class.String ∷ maybe (a class.Semicolon) ∷ []) ∷
-    in_order (many (a_token (class.Input ∷ class.StaticInput ∷ class.Static ∷ class.Const ∷ [])) ∷ typed_vars ∷ []) ∷
-    modified ∷ [])
+    in_order (many (a_token (class.Input ∷ class.StaticInput ∷ class.Static ∷ class.Const ∷ [])) ∷ variables ∷ a class.Semicolon ∷ []) ∷
+    function ∷ [])
 
 -- tmpl class | tmpl func
 abbrev pub template_parts : Expression
-template_parts = in_order (template_head ∷ one_of (a_node form.Class ∷ modified ∷ []) ∷ [])
+template_parts = in_order (template_head ∷ one_of (a_node form.Class ∷ function ∷ []) ∷ [])
 
 -- the name of a template of classes, and its arguments
 abbrev pub generic_type_parts : Expression
@@ -260,8 +216,8 @@ class_parts = in_order (a class.Kind ∷ name ∷ one_of (
 -- ["static"] ["const"] type var {"," var} ";" | [tmpl] func
 abbrev pub member_parts : Expression
 member_parts = one_of (
-    in_order (maybe (a class.Static) ∷ maybe (a class.Const) ∷ typed_vars ∷ []) ∷
-    in_order (maybe template_head ∷ modified ∷ []) ∷ [])
+    in_order (maybe (a class.Static) ∷ maybe (a class.Const) ∷ variables ∷ a class.Semicolon ∷ []) ∷
+    in_order (maybe template_head ∷ function ∷ []) ∷ [])
 
 -- block = "{" {stmt} "}"
 abbrev pub statement : Expression
@@ -277,7 +233,7 @@ empty_parts = a class.Semicolon
 
 -- local = {"static" | "const"} type var {"," var}, or expressions
 abbrev pub local_or_list : Expression
-local_or_list = one_of (in_order (many (a_token (class.Static ∷ class.Const ∷ [])) ∷ type_name ∷ vars ∷ []) ∷ args ∷ [])
+local_or_list = one_of (in_order (many (a_token (class.Static ∷ class.Const ∷ [])) ∷ variables ∷ []) ∷ args ∷ [])
 
 -- local ";" or list ";"
 abbrev pub simple_parts : Expression
