@@ -10,6 +10,8 @@ mod parser;
 mod reader;
 #[cfg(test)]
 mod tests;
+#[cfg(test)]
+mod trees;
 mod word;
 
 pub use fault::ParseFault;
