@@ -35,7 +35,7 @@ def definitions(file):
             yield sides[1].split(), re.findall(r"[\w.]+|\[\]|∷|\+\+|[()]", sides[2])
 
 
-def numbers(word):
+def numbered(word):
     """The numbers of the classes or of the forms, by their names."""
     found = {}
     for left, right in definitions("specs/Numbers.antt"):
@@ -505,7 +505,7 @@ def rules_of_choice(meaning):
 
 
 def main():
-    classes, forms = numbers("class_number"), numbers("form_number")
+    classes, forms = numbered("class_number"), numbered("form_number")
     words = Words(classes, forms)
     onward = Onward(words.of_form)
     dots = Dots(onward, sorted(words.of_form))
