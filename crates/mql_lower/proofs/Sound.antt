@@ -20,7 +20,7 @@ use Rattle.mql_mean.specs.declared.tree.Statement.{Statement, Empty, Block', Eva
 use Rattle.mql_mean.specs.declared.tree.Function.{Function}
 use Rattle.mql_mean.specs.declared.tree.Checked.{Checked}
 use Rattle.mql_mean.specs.Means.{nothing, event, numbered}
-use Rattle.mql_mean.specs.Types.{Is, is_void, count, kind_of, Prints, Typed, TypedNumbers, TypedRow, TypedStatement, TypedStatements, TypedBody, TypedFunctions, Names, Types}
+use Rattle.mql_mean.specs.Types.{Is, is_void, count, kind_of, Prints, Typed, TypedNumbers, TypedRow, TypedStatement, TypedStatements, TypedBody, TypedFunctions, Types}
 use Rattle.stack_vm.specs.declared.code.Code.{Code}
 use Rattle.stack_vm.specs.declared.code.Constant.{Constant}
 use Rattle.stack_vm.specs.declared.code.Constant.TheVariants as constant
