@@ -1,11 +1,11 @@
 -- Plans that have one status over given contents: where one has Done, nothing is refused.
-use Rattle.std.proofs.Common.{◌≡◌, ℕ, Bool, true, false, List, [], ◌∷◌, length, Option, Some, None, sym, subst, ◌∙◌}
+use Rattle.std.proofs.Common.{◌≡◌, ℕ, Bool, true, false, List, [], length, Option, Some, None, sym, subst, ◌∙◌}
 use Rattle.std.specs.Prelude.{nat_lt}
 use Rattle.std.specs.Bool.{MatchBool}
 use Rattle.tester_io.specs.Outside.{Contents, Rose}
 use Rattle.tester_answer.specs.declared.status.Status.{Status}
 use Rattle.tester_answer.specs.declared.status.Status.TheVariants.{Done, Usage, Source, Settings, Prices, CodeFile, Grid, Absent, ReadFault, WriteFault, TooLarge, OutOfMemory}
-use Rattle.tester_answer.specs.Answer.{Plan, Reads, Finds, Ends, AfterReading, Gives, refusal, refuses}
+use Rattle.tester_answer.specs.Answer.{Plan, Reads, Finds, AfterReading, Gives, refusal, refuses}
 use Rattle.tester_answer.specs.Clauses.{ReadCounts, Refused, UsageRefused, HasDone, IsDoneOrMemory}
 
 -- over any contents the plan has one status
