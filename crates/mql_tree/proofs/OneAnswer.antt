@@ -1,14 +1,14 @@
 -- A text has one answer.
 use Rattle.std.proofs.Common.{◌≡◌, ℕ, zero, suc, ◌<◌, ◌≤◌, inl, inr, List, [], ◌∷◌, take, drop, refl, sym, ap, subst, ◌∙◌, arith, Option, Some, None, Err}
-use Rattle.mql_tree.proofs.Powers.{before_or_past}
-use Rattle.mql_tree.specs.declared.lexeme.Lexeme.{Lexeme}
-use Rattle.mql_tree.specs.declared.lexeme.Mode.{Mode}
+use Rattle.std.proofs.lemmas.Bool.{cases_lt}
+use Rattle.mql_spelling.specs.declared.lexeme.Lexeme.{Lexeme}
+use Rattle.mql_spelling.specs.declared.lexeme.Mode.{Mode}
 use Rattle.mql_tree.specs.declared.token.Token as token
 use Rattle.mql_tree.specs.declared.value.PieceFault.{PieceFault}
 use Rattle.mql_tree.specs.declared.value.Meaning.{Meaning}
 use Rattle.mql_tree.specs.declared.value.Meaning.TheVariants.{Nothing, Token, Fault}
-use Rattle.mql_tree.specs.Lexeme.{lexeme}
-use Rattle.mql_tree.specs.Longest.{Longest}
+use Rattle.mql_spelling.specs.Lexeme.{lexeme}
+use Rattle.mql_spelling.specs.Longest.{Longest}
 use Rattle.mql_tree.specs.Pieces.{meaning}
 use Rattle.mql_tree.specs.Tokens.{Answer, Spot, behind, mode_behind, span_of, fault_at, prefixed, Lexes, ended, blank, spelled, broken, nothing}
 
@@ -17,9 +17,9 @@ not_longer : (what : List ℕ → Option Lexeme) (us : List ℕ) (n m : ℕ) (v 
 not_longer what us n m v w p q lt = let e : ◌≡◌ {A = Option Lexeme} None (Some w) = sym (p.2 m lt q.0) ∙ q.1 in cc
 
 same_length : (what : List ℕ → Option Lexeme) (us : List ℕ) (n m : ℕ) (v w : Lexeme) → Longest what us (Some (n, v)) → Longest what us (Some (m, w)) → n ≡ m
-same_length what us n m v w p q = elim (before_or_past n m) [
+same_length what us n m v w p q = elim (cases_lt n m) [
   | inl lt ↦ absurd (not_longer what us n m v w p q lt)
-  | inr le ↦ elim (before_or_past m n) [
+  | inr le ↦ elim (cases_lt m n) [
     | inl lt ↦ absurd (not_longer what us m n w v q p lt)
     | inr ge ↦ (let e : n ≡ m = omega arith in e)
   ]

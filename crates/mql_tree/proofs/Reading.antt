@@ -1,8 +1,8 @@
 -- A text is read piece by piece.
 use Rattle.std.proofs.Common.{◌≡◌, ℕ, ◌+◌, ◌-◌, ◌<◌, ◌≤◌, List, [], ◌∷◌, ◌++◌, length, take, drop, refl, sym, ap, subst, ◌∙◌, arith, append_assoc, append-nil, Some, None, Ok, Err}
 use Rattle.std.proofs.lemmas.List.{length-drop}
-use Rattle.mql_tree.specs.declared.lexeme.Lexeme.{Lexeme}
-use Rattle.mql_tree.specs.declared.lexeme.Mode.{Mode}
+use Rattle.mql_spelling.specs.declared.lexeme.Lexeme.{Lexeme}
+use Rattle.mql_spelling.specs.declared.lexeme.Mode.{Mode}
 use Rattle.mql_tree.specs.declared.token.Span.{Span}
 use Rattle.mql_tree.specs.declared.token.Token as token
 use Rattle.mql_tree.specs.declared.token.LexFault.{LexFault}
@@ -11,8 +11,8 @@ use Rattle.mql_tree.specs.declared.value.PieceFault.{PieceFault}
 use Rattle.mql_tree.specs.declared.value.PieceFault.TheVariants as faults
 use Rattle.mql_tree.specs.declared.value.Meaning.{Meaning}
 use Rattle.mql_tree.specs.declared.value.Meaning.TheVariants.{Nothing, Token, Fault}
-use Rattle.mql_tree.specs.Lexeme.{lexeme}
-use Rattle.mql_tree.specs.Longest.{Longest}
+use Rattle.mql_spelling.specs.Lexeme.{lexeme}
+use Rattle.mql_spelling.specs.Longest.{Longest}
 use Rattle.mql_tree.specs.Pieces.{meaning}
 use Rattle.mql_tree.specs.Tokens.{Answer, Spot, behind, mode_behind, line_ends, span_of, fault_at, prefixed, start, Lexes, ended, blank, spelled, broken, nothing, IsLexed}
 

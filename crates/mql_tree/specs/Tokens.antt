@@ -1,8 +1,8 @@
 -- Which tokens a text has, and where: blanks, comments and spellings in turn, each piece the longest that stands there.
 use Rattle.std.specs.Prelude.{◌≡◌, ℕ, ◌+◌, ◌<◌, ◌==◌, List, [], ◌∷◌, ◌++◌, length, take, drop, Some, None, Result, Ok, Err, bytes_eq, codes, count_by, if◌then◌else◌}
-use Rattle.mql_tree.specs.declared.lexeme.Lexeme.{Lexeme}
-use Rattle.mql_tree.specs.declared.lexeme.Mode.{Mode}
-use Rattle.mql_tree.specs.declared.lexeme.Mode.TheVariants.{Plain, Hash, Include, Directive}
+use Rattle.mql_spelling.specs.declared.lexeme.Lexeme.{Lexeme}
+use Rattle.mql_spelling.specs.declared.lexeme.Mode.{Mode}
+use Rattle.mql_spelling.specs.declared.lexeme.Mode.TheVariants.{Plain, Hash, Include, Directive}
 use Rattle.mql_tree.specs.declared.token.Span.{Span}
 use Rattle.mql_tree.specs.declared.token.Token as token
 use Rattle.mql_tree.specs.declared.token.Token.TheVariants as tokens
@@ -11,8 +11,8 @@ use Rattle.mql_tree.specs.declared.token.LexFault.TheVariants.{NoToken, NameTooL
 use Rattle.mql_tree.specs.declared.value.PieceFault.{PieceFault}
 use Rattle.mql_tree.specs.declared.value.PieceFault.TheVariants as faults
 use Rattle.mql_tree.specs.declared.value.Meaning.TheVariants.{Nothing, Token, Fault}
-use Rattle.mql_tree.specs.Lexeme.{lexeme}
-use Rattle.mql_tree.specs.Longest.{Longest}
+use Rattle.mql_spelling.specs.Lexeme.{lexeme}
+use Rattle.mql_spelling.specs.Longest.{Longest}
 use Rattle.mql_tree.specs.Pieces.{meaning}
 
 -- where the next piece stands, behind a token: `#` begins a directive, and its line's end ends it

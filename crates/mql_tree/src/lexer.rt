@@ -1,14 +1,13 @@
 //! The tokens of a text.
 ghost use Rattle.std.specs.Prelude.{◌≡◌, ℕ, ◌+◌, ◌<◌, ◌≤◌, length, OnErr, IfOk, List, Some, None, Ok, Err};
-ghost use Rattle.mql_tree.specs.Lexeme.{lexeme};
-ghost use Rattle.mql_tree.specs.Longest.{Longest};
+ghost use Rattle.mql_spelling.specs.Lexeme.{lexeme};
+ghost use Rattle.mql_spelling.specs.Longest.{Longest};
 ghost use Rattle.mql_tree.specs.Tokens.{behind_hash, behind_plain, behind_other, mode_behind, line_ends, span_of, fault_at, start, Answer, Lexes, IsLexed};
 
-use crate::lexeme::{Lexeme, Mode};
-use crate::scan::longest;
 use crate::value::{Meaning, PieceFault, piece_meaning};
 use crate::{LexFault, Span, Token, Tokens};
 use fx8::Text;
+use mql_spelling::{Mode, longest};
 use std::alloc::Global;
 
 /// The number of the sign `#`.

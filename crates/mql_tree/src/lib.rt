@@ -1,12 +1,7 @@
 //! The text of a source file, its tokens and its tree.
 #![tactic(auto)]
 
-mod escape;
-mod lexeme;
 mod lexer;
-mod marked;
-mod real;
-mod scan;
 #[cfg(test)]
 mod tests;
 mod text;

@@ -79,12 +79,11 @@ fn lexed(alloc: Global, source: &str) -> Result<String, Fail> {
 }
 
 #[test]
-fn spellings(rt: HostRuntime) -> Result<(), Fail> {
+fn tokens_of_texts(rt: HostRuntime) -> Result<(), Fail> {
     let alloc: Global = rt.alloc();
     let table = [
         ("", ""),
         ("a1 _b", "name [97, 49]; name [95, 98]; "),
-        ("D C1", "name [68]; name [67, 49]; "),
         (
             "0 2147483647 2147483648",
             "0 Int; 2147483647 Int; 2147483648 Long; ",
@@ -98,59 +97,26 @@ fn spellings(rt: HostRuntime) -> Result<(), Fail> {
             "4294967296 Long; 9223372036854775808 Ulong; ",
         ),
         ("18446744073709551616", "a number is too large at line 1"),
-        (
-            "1.5 .5 2. 1e-3",
-            "double 150000000; double 50000000; double 200000000; double 100000; ",
-        ),
-        (
-            "1e3 1.5E+2 0e99999999999999999999",
-            "double 100000000000; double 15000000000; double 0; ",
-        ),
-        (
-            "0.000000005 0.0000000049 0.000000015",
-            "double 1; double 0; double 2; ",
-        ),
-        (
-            "1e-99999999999999999999 00.5",
-            "double 0; double 50000000; ",
-        ),
-        (
-            "92233720368.54775807 1.",
-            "double 9223372036854775807; double 100000000; ",
-        ),
-        ("92233720368.54775808", "a number is too large at line 1"),
-        ("1e99999999999999999999", "a number is too large at line 1"),
+        ("1.5 .5", "double 150000000; double 50000000; "),
+        ("\n92233720368.54775808", "a number is too large at line 2"),
         (
             "1e x 0x g 1.2.3",
             "1 Int; name [101]; name [120]; 0 Int; name [120]; name [103]; double 120000000; double 30000000; ",
         ),
         (
-            "D'1970.01.01' D'2020.01.02 03:04:05'",
-            "0 Datetime; 1577934245 Datetime; ",
+            "D'2020.01.02 03:04:05' C'255,0,1'",
+            "1577934245 Datetime; 65791 Color; ",
         ),
-        (
-            "D'2000.02.29 23:59' D'2100.03.01'",
-            "951868740 Datetime; 4107542400 Datetime; ",
-        ),
-        ("D'2999.12.31'", "32503593600 Datetime; "),
         ("D'2001.02.29'", "no token at line 1"),
-        ("D'3000.01.01'", "no token at line 1"),
-        ("D'2020.01.02 24:00'", "no token at line 1"),
-        ("D'2020.1.2'", "no token at line 1"),
-        ("C'255,0,1' C'0,0,255'", "65791 Color; 16711680 Color; "),
         ("C'256,0,0'", "no token at line 1"),
-        ("C'1,2'", "no token at line 1"),
         ("a>>=b", "name [97]; sign 39; name [98]; "),
-        ("::<<=<=<", "sign 10; sign 38; sign 22; sign 21; "),
         ("a/*b*/c", "name [97]; name [99]; "),
-        ("/* /* */ x", "name [120]; "),
         ("// x\ny", "name [121]; "),
         ("\n/* x", "an open comment at line 2"),
-        ("\"a\\n\\x41g\\\\\"", "str [97, 10, 65, 103, 92]; "),
-        ("\"\\x12345\"", "str [4660, 53]; "),
+        ("\"a\\n\"", "str [97, 10]; "),
         ("\"a\\q\"", "no token at line 1"),
         ("x\n\"ab\n\"", "an open string at line 2"),
-        ("'a' '\\'' '\\0'", "97 Ushort; 39 Ushort; 0 Ushort; "),
+        ("'a' '\\''", "97 Ushort; 39 Ushort; "),
         ("'ab'", "no token at line 1"),
         ("''", "no token at line 1"),
         (

@@ -1,17 +1,13 @@
 //! What a piece of text means: nothing, a token or a fault.
-ghost use Rattle.std.specs.Prelude.{◌≡◌, ◌+◌, ◌*◌, ◌-◌, ◌^◌, ◌<◌, ◌≤◌, length, take, drop, IfOk, MatchOption, Some};
-ghost use Rattle.mql_tree.specs.Value.{digit_value, value_from, decimal, hexadecimal, named, between, string, character, text_of};
-ghost use Rattle.mql_tree.specs.Pieces.{quoted, meaning};
+ghost use Rattle.std.specs.Prelude.{◌≡◌, ◌≤◌, length, drop, IfOk, Some};
+ghost use Rattle.mql_spelling.specs.Value.{value_from, spelled};
+ghost use Rattle.mql_tree.specs.Pieces.{decimal, hexadecimal, named, between, string, character, real_of, color_of, date_of, quoted, meaning};
 ghost use Rattle.mql_tree.specs.declared.token.Token.TheVariants as tokens;
-ghost use Rattle.mql_tree.specs.declared.escape.Escape.TheVariants as escapes;
 ghost use Rattle.mql_tree.specs.declared.value.Meaning.TheVariants as meanings;
 
 use crate::Token;
-use crate::escape::{digit_value, spelled_text};
-use crate::lexeme::{Lexeme, Quote};
-use crate::marked::{color, date};
-use crate::real::real;
-use fx8::{IntKind, OutOfMemory, Text};
+use fx8::{Fix8, IntKind, OutOfMemory, Text};
+use mql_spelling::{Lexeme, Quote, color_value, date_value, number, real_value, spelled_text};
 use std::alloc::Global;
 
 /// Why a piece means no token.
@@ -32,33 +28,8 @@ pub enum Meaning {
     Fault(PieceFault),
 }
 
-/// The number with one digit more, where it fits 64 bits.
-fn with_digit(base: u64, value: u64, digit: u16) -> Option<u64>
-    ensures { MatchOption result (2 ^ 64 ≤ base * value + digit_value digit) (λ next. next ≡ base * value + digit_value digit) }
-{
-    let shifted = base.checked_mul(value)?;
-    shifted.checked_add(u64::from(digit_value(digit)))
-}
-
-/// The number of these digits, where it fits 64 bits.
-pub(crate) fn number(base: u64, digits: &[u16]) -> Option<u64>
-    requires { 1 ≤ base }
-    ensures { MatchOption result (2 ^ 64 ≤ value_from base 0 digits.now) (λ value. value ≡ value_from base 0 digits.now) }
-{
-    let mut value = 0u64;
-    let mut rest = digits;
-    while let Some((digit, others)) = rest.split_first() {
-        match with_digit(base, value, *digit) {
-            Some(next) => value = next,
-            None => return None,
-        }
-        rest = others;
-    }
-    Some(value)
-}
-
 /// A decimal literal: the first of `int`, `long` and `ulong` that holds it.
-#[tactic(auto, unfolding(crate::specs::Value::decimal))]
+#[tactic(auto, unfolding(crate::specs::Pieces::decimal))]
 fn decimal(digits: &[u16]) -> Meaning
     ensures { result ≡ decimal (value_from 10 0 digits.now) }
 {
@@ -80,7 +51,7 @@ fn decimal(digits: &[u16]) -> Meaning
 }
 
 /// A hexadecimal literal: the first of `int`, `uint`, `long` and `ulong` that holds it.
-#[tactic(auto, unfolding(crate::specs::Value::hexadecimal))]
+#[tactic(auto, unfolding(crate::specs::Pieces::hexadecimal))]
 fn hexadecimal(digits: &[u16]) -> Meaning
     ensures { result ≡ hexadecimal (value_from 16 0 digits.now) }
 {
@@ -106,7 +77,7 @@ fn hexadecimal(digits: &[u16]) -> Meaning
 }
 
 /// A name, of at most 63 characters.
-#[tactic(auto, unfolding(crate::specs::Value::named))]
+#[tactic(auto, unfolding(crate::specs::Pieces::named))]
 fn named(alloc: Global, name: &[u16]) -> Result<Meaning, OutOfMemory>
     ensures { IfOk result (λ means. means ≡ named name.now) }
 {
@@ -154,8 +125,8 @@ fn quoted(alloc: Global, quote: Quote, piece: &[u16]) -> Result<Meaning, OutOfMe
     match quote {
         Quote::Str => string(alloc, piece),
         Quote::Char => character(alloc, piece),
-        Quote::Date => Ok(date(behind_mark(piece))),
-        Quote::Color => Ok(color(behind_mark(piece))),
+        Quote::Date => Ok(date(date_value(behind_mark(piece)))),
+        Quote::Color => Ok(color(color_value(behind_mark(piece)))),
         Quote::File => included(alloc, piece),
         Quote::Library => included(alloc, piece),
     }
@@ -163,7 +134,7 @@ fn quoted(alloc: Global, quote: Quote, piece: &[u16]) -> Result<Meaning, OutOfMe
 
 /// A string.
 fn string(alloc: Global, piece: &[u16]) -> Result<Meaning, OutOfMemory>
-    ensures { IfOk result (λ means. means ≡ string (text_of escapes.Plain (between piece.now))) }
+    ensures { IfOk result (λ means. means ≡ string (spelled (between piece.now))) }
 {
     match spelled_text(alloc, between(piece))? {
         Some(text) => Ok(Meaning::Token(Token::Str(text))),
@@ -173,7 +144,7 @@ fn string(alloc: Global, piece: &[u16]) -> Result<Meaning, OutOfMemory>
 
 /// A character.
 fn character(alloc: Global, piece: &[u16]) -> Result<Meaning, OutOfMemory>
-    ensures { IfOk result (λ means. means ≡ character (text_of escapes.Plain (between piece.now))) }
+    ensures { IfOk result (λ means. means ≡ character (spelled (between piece.now))) }
 {
     match spelled_text(alloc, between(piece))? {
         Some(text) => Ok(one_unit(text.as_slice())),
@@ -190,6 +161,42 @@ fn one_unit(text: &[u16]) -> Meaning
             kind: IntKind::Ushort,
         }),
         _ => Meaning::Fault(PieceFault::NoToken),
+    }
+}
+
+/// A double.
+fn real(value: Option<Fix8>) -> Meaning
+    ensures { result ≡ real_of value }
+{
+    match value {
+        Some(number) => Meaning::Token(Token::Double(number)),
+        None => Meaning::Fault(PieceFault::NumberTooLarge),
+    }
+}
+
+/// A color.
+fn color(value: Option<u64>) -> Meaning
+    ensures { result ≡ color_of value }
+{
+    match value {
+        Some(value) => Meaning::Token(Token::Int {
+            value,
+            kind: IntKind::Color,
+        }),
+        None => Meaning::Fault(PieceFault::NoToken),
+    }
+}
+
+/// A date.
+fn date(value: Option<u64>) -> Meaning
+    ensures { result ≡ date_of value }
+{
+    match value {
+        Some(value) => Meaning::Token(Token::Int {
+            value,
+            kind: IntKind::Datetime,
+        }),
+        None => Meaning::Fault(PieceFault::NoToken),
     }
 }
 
@@ -213,7 +220,7 @@ pub fn piece_meaning(alloc: Global, what: Lexeme, piece: &[u16]) -> Result<Meani
         Lexeme::Name => named(alloc, piece),
         Lexeme::Decimal => Ok(decimal(piece)),
         Lexeme::Hexadecimal => Ok(hexadecimal(behind_two(piece))),
-        Lexeme::Double => real(alloc, piece),
+        Lexeme::Double => Ok(real(real_value(alloc, piece)?)),
         Lexeme::Quoted(quote) => quoted(alloc, quote, piece),
         Lexeme::OpenString => Ok(Meaning::Fault(PieceFault::OpenString)),
         Lexeme::Sign(number) => Ok(Meaning::Token(Token::Sign(number))),

@@ -1,0 +1,4 @@
+pub mod Digits
+pub mod Escapes
+pub mod LongestPiece
+pub mod Powers
