@@ -42,7 +42,20 @@ const ORDER: &[Definition] = &[
     ("X", None, "x"),
 ];
 
-const CASES: [Case; 34] = [
+/// Each body names a macro that is defined behind it.
+const AHEAD: &[Definition] = &[
+    ("A", Some(&["x"]), "B(x,x)"),
+    ("B", Some(&["p", "q"]), "C p q"),
+    ("C", None, "c"),
+];
+
+const COMMA: &[Definition] = &[
+    ("C", None, ","),
+    ("G", Some(&["x"]), "[x]"),
+    ("F", Some(&["x"]), "G(x)"),
+];
+
+const CASES: [Case; 41] = [
     Case {
         macros: TWICE,
         run: "TWICE(2+1)",
@@ -246,6 +259,48 @@ const CASES: [Case; 34] = [
         run: "TAIL(1)(2)",
         room: 99,
         want: Want::Tokens("1 TAIL(2)"),
+    },
+    Case {
+        macros: PAIR,
+        run: "P(P(P(1,2),3),N())",
+        room: 99,
+        want: Want::Tokens("[[[1|2]|3]|n]"),
+    },
+    Case {
+        macros: PAIR,
+        run: "P(1,P(2,P(3)))",
+        room: 99,
+        want: Want::Arity(8),
+    },
+    Case {
+        macros: ORDER,
+        run: "ID(TAIL(ID(X)))",
+        room: 99,
+        want: Want::Tokens("x TAIL"),
+    },
+    Case {
+        macros: AHEAD,
+        run: "A(1) A",
+        room: 99,
+        want: Want::Tokens("c 1 1 A"),
+    },
+    Case {
+        macros: AHEAD,
+        run: "A(A(1))",
+        room: 99,
+        want: Want::Tokens("c c 1 1 c 1 1"),
+    },
+    Case {
+        macros: COMMA,
+        run: "G(C) G(q C)",
+        room: 99,
+        want: Want::Tokens("[,] [q,]"),
+    },
+    Case {
+        macros: COMMA,
+        run: "q F(C)",
+        room: 99,
+        want: Want::Arity(2),
     },
 ];
 

@@ -5,6 +5,8 @@ mod copies;
 mod directive;
 mod fault;
 mod file_name;
+#[cfg(test)]
+mod order_tests;
 mod part;
 mod reading;
 mod setting;
