@@ -1,4 +1,6 @@
+pub mod Added
 pub mod Cutting
+pub mod Ends
 pub mod Folders
 pub mod Innermost
 pub mod Joining
@@ -8,3 +10,4 @@ pub mod OneAnswer
 pub mod OneProgram
 pub mod Parameters
 pub mod Steps
+pub mod Turns

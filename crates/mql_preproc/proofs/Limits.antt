@@ -75,41 +75,47 @@ replaces_limit {s = s} (whole more b) h = let f = becomes_fits b in omega (arith
 replaces_limit (misfit span b) h = tt
 replaces_limit (too_many span b) h = tt
 
--- a directive makes no tokens
-abbrev MakesNone : List (token.Token × Span) → Result Deed PreFault → Type 0
-MakesNone ts (Ok (Goes q)) = q.state.made ≡ ts
-MakesNone ts (Ok (Includes q k)) = q.state.made ≡ ts
-MakesNone ts (Err fault) = Unit {0}
+-- a directive makes no tokens, and reads no file
+abbrev pub Keeps : State → Result Deed PreFault → Type 0
+Keeps s (Ok (Goes q)) = (q.state.made ≡ s.made) × (q.state.read ≡ s.read)
+Keeps s (Ok (Includes q k)) = (q.state.made ≡ s.made) × (q.state.read ≡ s.read)
+Keeps s (Err fault) = Unit {0}
 
-admitted_none : (p : Progress) (r : Result (Option ℕ) PreFault) → MakesNone p.state.made (admitted p r)
-admitted_none p (Ok None) = refl
-admitted_none p (Ok (Some k)) = refl
-admitted_none p (Err fault) = tt
+admitted_keeps : (p : Progress) (r : Result (Option ℕ) PreFault) → Keeps p.state (admitted p r)
+admitted_keeps p (Ok None) = (refl, refl)
+admitted_keeps p (Ok (Some k)) = (refl, refl)
+admitted_keeps p (Err fault) = tt
 
-settled_none : (span : Span) (p : Progress) (ms : List Macro) (cs : Option (List Condition)) → MakesNone p.state.made (settled span p ms cs)
-settled_none span p ms None = tt
-settled_none span p ms (Some cs) = refl
+settled_keeps : (span : Span) (p : Progress) (ms : List Macro) (cs : Option (List Condition)) → Keeps p.state (settled span p ms cs)
+settled_keeps span p ms None = tt
+settled_keeps span p ms (Some cs) = (refl, refl)
 
-obeyed_none : (sources : List Source) (source : Source) (depth : ℕ) (span : Span) (p : Progress) (d : Option Directive) → MakesNone p.state.made (obeyed sources source depth span p d)
-obeyed_none sources source depth span p None = tt
-obeyed_none sources source depth span p (Some (directives.Include x place)) = admitted_none p (admission sources p.state.read depth span (included_name source x place))
-obeyed_none sources source depth span p (Some (directives.Sets s)) = settled_none span p (macros_behind s p.state.macros) (conditions_behind span s p.state.macros p.conditions)
+obeyed_keeps : (sources : List Source) (source : Source) (depth : ℕ) (span : Span) (p : Progress) (d : Option Directive) → Keeps p.state (obeyed sources source depth span p d)
+obeyed_keeps sources source depth span p None = tt
+obeyed_keeps sources source depth span p (Some (directives.Include x place)) = admitted_keeps p (admission sources p.state.read depth span (included_name source x place))
+obeyed_keeps sources source depth span p (Some (directives.Sets s)) = settled_keeps span p (macros_behind s p.state.macros) (conditions_behind span s p.state.macros p.conditions)
 
 either_deed : (P : Result Deed PreFault → Type 0) (b : Bool) (x y : Result Deed PreFault) → P x → P y → P (cond b x y)
 either_deed P true x y p q = p
 either_deed P false x y p q = q
 
-deed_none : (sources : List Source) (source : Source) (depth : ℕ) (span : Span) (line : List (token.Token × Span)) (p : Progress) → MakesNone p.state.made (deed sources source depth span line p)
+deed_keeps : (sources : List Source) (source : Source) (depth : ℕ) (span : Span) (line : List (token.Token × Span)) (p : Progress) → Keeps p.state (deed sources source depth span line p)
 unfolding deed
-deed_none sources source depth span line p =
-    either_deed (MakesNone p.state.made) (is_active p.conditions || is_condition (word_at line)) (obeyed sources source depth span p (directive_of line)) (Ok (Goes p)) (obeyed_none sources source depth span p (directive_of line)) refl
+deed_keeps sources source depth span line p =
+    either_deed (Keeps p.state) (is_active p.conditions || is_condition (word_at line)) (obeyed sources source depth span p (directive_of line)) (Ok (Goes p)) (obeyed_keeps sources source depth span p (directive_of line)) (refl, refl)
 
--- what stands behind a directive keeps to the limit
+-- what stands behind a directive
+pub goes_keeps : (sources : List Source) (source : Source) (depth : ℕ) (span : Span) (line : List (token.Token × Span)) (p q : Progress) → deed sources source depth span line p ≡ Ok (Goes q) → (q.state.made ≡ p.state.made) × (q.state.read ≡ p.state.read)
+goes_keeps sources source depth span line p q e = subst (Keeps p.state) e (deed_keeps sources source depth span line p)
+
+pub includes_keeps : (sources : List Source) (source : Source) (depth : ℕ) (span : Span) (line : List (token.Token × Span)) (p q : Progress) (k : ℕ) → deed sources source depth span line p ≡ Ok (Includes q k) → (q.state.made ≡ p.state.made) × (q.state.read ≡ p.state.read)
+includes_keeps sources source depth span line p q k e = subst (Keeps p.state) e (deed_keeps sources source depth span line p)
+
 goes_limit : (sources : List Source) (source : Source) (depth : ℕ) (span : Span) (line : List (token.Token × Span)) (p q : Progress) → deed sources source depth span line p ≡ Ok (Goes q) → length p.state.made ≤ most_tokens → length q.state.made ≤ most_tokens
-goes_limit sources source depth span line p q e h = let f = subst (MakesNone p.state.made) e (deed_none sources source depth span line p) in omega (arith, ap length f, h)
+goes_limit sources source depth span line p q e h = let f = (goes_keeps sources source depth span line p q e).0 in omega (arith, ap length f, h)
 
 includes_limit : (sources : List Source) (source : Source) (depth : ℕ) (span : Span) (line : List (token.Token × Span)) (p q : Progress) (k : ℕ) → deed sources source depth span line p ≡ Ok (Includes q k) → length p.state.made ≤ most_tokens → length q.state.made ≤ most_tokens
-includes_limit sources source depth span line p q k e h = let f = subst (MakesNone p.state.made) e (deed_none sources source depth span line p) in omega (arith, ap length f, h)
+includes_limit sources source depth span line p q k e h = let f = (includes_keeps sources source depth span line p q k e).0 in omega (arith, ap length f, h)
 
 end_limit : (s : State) (cs : List Condition) → length s.made ≤ most_tokens → InLimit (end_of (record { state = s; conditions = cs }))
 end_limit s [] h = h

@@ -5,4 +5,5 @@ pub mod Names
 pub mod Parts
 pub mod Reading
 pub mod Strings
+pub mod Turns
 pub mod Words

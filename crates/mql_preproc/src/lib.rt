@@ -18,5 +18,5 @@ mod tests;
 mod word;
 
 pub use fault::PreFault;
-pub use reading::{one_answer, preprocess};
+pub use reading::{needed_in_turn, one_answer, preprocess};
 pub use source::{Source, Sources, all_short};

@@ -1,27 +1,26 @@
 -- How the plans of a program go on behind its tokens.
-use Rattle.std.proofs.Common.{◌≡◌, ℕ, ◌≤◌, List, [], length, Option, Some, None, Result, Ok, Err, refl, sym, ap, subst}
-use Rattle.tester_io.specs.Outside.{Contents, WhereTold}
+use Rattle.std.proofs.Common.{◌≡◌, ℕ, ◌+◌, List, [], Option, Result, Ok, Err, refl, sym, ap, subst}
+use Rattle.tester_io.specs.Outside.{Contents}
 use Rattle.mql_tree.specs.declared.token.Tree.{Tree}
 use Rattle.mql_preproc.specs.declared.source.Source.{Source}
-use Rattle.mql_preproc.specs.Reading.{Preprocesses}
 use Rattle.mql_parse.specs.declared.fault.ParseFault.{ParseFault}
 use Rattle.mql_parse.specs.Parsed.{Parsing}
 use Rattle.mql_level.specs.Level.{program}
 use Rattle.mql_mean.specs.declared.tree.Checked.{Checked}
 use Rattle.tester_answer.specs.declared.status.Status.{Status}
 use Rattle.tester_answer.specs.declared.status.Status.TheVariants as status
-use Rattle.tester_answer.specs.Answer.{Plan, Finds, Gives, refuses}
+use Rattle.tester_answer.specs.Answer.{Plan, Gives}
 use Rattle.tester_answer.specs.Clauses.{ReadCounts, Refused, Never}
-use Rattle.tester_answer.proofs.PlanLemmas.{Leads, leads_same, leads_on, leads_finding}
+use Rattle.tester_answer.proofs.PlanLemmas.{Leads, leads_same, leads_finding}
 use Rattle.tester_answer.proofs.OneStatus.{OneStatus, refuses_one, finds_one}
-use Rattle.tester_sources.specs.Reading.{Tokens, never, program_plan, most_files, ReadInTurn, OneAnswer}
+use Rattle.tester_sources.specs.Reading.{Tokens, never, program_plan, most_files, OneAnswer}
 use Rattle.tester_sources.specs.Judging.{with_tree, tree_plan, with_program, TreeRefused, FormRefused, OneTree}
-use Rattle.tester_sources.proofs.SourceLemmas.{sources_lead, sources_one, read_leads}
+use Rattle.tester_sources.proofs.SourceLemmas.{sources_lead, sources_one}
 
 -- what follows the tokens may be anything
 pub program_lead : (entry : List ℕ) (next : List Source → Tokens → Plan) (told : Option Contents) → Leads (program_plan entry next) (program_plan entry (λ sources tokens. never)) told
 unfolding program_plan
-program_lead entry next told = sources_lead most_files entry [] next told
+program_lead entry next told = sources_lead (most_files + 1) entry [] next told
 
 -- past the tree
 pub tree_leads : (entry : List ℕ) (sources : List Source) (tokens : Tokens) (tree : Tree) (next : List Source → Tokens → Tree → Plan) (told : Option Contents) → Parsing tokens (Ok tree) → Leads (tree_plan entry next sources tokens) (next sources tokens tree) told
@@ -76,4 +75,4 @@ tree_one alone entry sources tokens next each = finds_one (Result Tree ParseFaul
 
 pub program_one : OneAnswer → (entry : List ℕ) (next : List Source → Tokens → Plan) → ((sources : List Source) (tokens : Tokens) → OneStatus (next sources tokens)) → OneStatus (program_plan entry next)
 unfolding program_plan
-program_one one entry next each = sources_one one most_files entry [] next each
+program_one one entry next each = sources_one one (most_files + 1) entry [] next each

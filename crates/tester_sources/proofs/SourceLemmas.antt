@@ -10,6 +10,7 @@ use Rattle.mql_tree.specs.Text.{Answers}
 use Rattle.mql_preproc.specs.Answers.{Unless}
 use Rattle.mql_preproc.specs.declared.fault.PreFault.TheVariants.{Need, BadDirective, UnclosedIf, MacroArity, Depth, TooManyTokens, TooManyFiles, Lex, OutOfMemory}
 use Rattle.mql_preproc.specs.Reading.{Preprocesses}
+use Rattle.mql_preproc.specs.Turns.{NeededInTurn, one_more}
 use Rattle.tester_answer.specs.declared.status.Status.{Status}
 use Rattle.tester_answer.specs.declared.status.Status.TheVariants as status
 use Rattle.tester_answer.specs.Answer.{Plan, Reads, Finds, Ends, refuses}
@@ -17,7 +18,7 @@ use Rattle.tester_answer.specs.Clauses.{ReadCounts, NoneFell, IsReading, Reading
 use Rattle.tester_answer.proofs.PlanLemmas.{Leads, leads_same, leads_on, leads_reading, leads_finding, leads_never, leads_both_read, leads_both_find, refused_here, refused_on}
 use Rattle.tester_answer.proofs.OneStatus.{OneStatus, refuses_one, reads_one, finds_one}
 use Rattle.tester_sources.specs.Faults.{text_fault, source_fault, TellsFault, TellsText, TellsRefusal}
-use Rattle.tester_sources.specs.Reading.{source_limit, most_files, Tokens, source, never, with_text, with_tokens, sources_plan, program_plan, ReadInTurn, none, needed, IsSource, NeedMet, Refusing, FilesRefused, TextRefused, file_plan, OneAnswer}
+use Rattle.tester_sources.specs.Reading.{source_limit, most_files, Tokens, source, never, with_text, with_tokens, sources_plan, program_plan, ReadInTurn, none, needed, NeedMet, Refusing, FilesRefused, TextRefused, file_plan, OneAnswer}
 
 -- with a text that is there
 pub text_leads : (name : List ℕ) (r : Result (List ℕ) TextFault) (text : List ℕ) (next : List ℕ → Plan) (told : Option Contents) → r ≡ Ok text → Leads (with_text name r next) (next text) told
@@ -41,7 +42,7 @@ tokens_lead sources next reads rest told each (Err (Lex fault)) = leads_same _ t
 tokens_lead sources next reads rest told each (Err OutOfMemory) = leads_same _ told
 
 pub sources_lead : (k : ℕ) (entry : List ℕ) (sources : List Source) (next : List Source → Tokens → Plan) (told : Option Contents) → Leads (sources_plan k entry sources next) (sources_plan k entry sources (λ sources tokens. never)) told
-sources_lead zero entry sources next told = leads_both_find _ _ _ _ told (tokens_lead sources next (λ name. never) (λ name. never) told (λ name. leads_same never told))
+sources_lead zero entry sources next told = leads_same never told
 sources_lead (suc k) entry sources next told =
     leads_both_find _ _ _ _ told
     (tokens_lead sources next _ _ told (λ name. leads_both_read name source_limit _ _ told (λ bytes. texts_lead name (text_of bytes) _ _ told (λ text. sources_lead k entry (sources ++ source name text ∷ []) next told))))
@@ -53,10 +54,10 @@ step_leads k entry sources next told name bytes text needs reading is =
     (leads_on _ _ _ told (leads_reading name source_limit _ told bytes reading) (text_leads name (text_of bytes) text _ told is))
 
 -- past files that were read in turn
-past_at : (entry : List ℕ) (held : Contents) (sources : List Source) (k : ℕ) (next : List Source → Tokens → Plan) → ReadInTurn entry held sources → length sources + k ≡ most_files → Leads (program_plan entry next) (sources_plan k entry sources next) (Some held)
+past_at : (entry : List ℕ) (held : Contents) (sources : List Source) (k : ℕ) (next : List Source → Tokens → Plan) → ReadInTurn entry held sources → length sources + k ≡ most_files + 1 → Leads (program_plan entry next) (sources_plan k entry sources next) (Some held)
 unfolding program_plan
 past_at entry held [] k next none e =
-    let same : k ≡ most_files = omega (arith, e) in
+    let same : k ≡ most_files + 1 = omega (arith, e) in
     subst (λ k. Leads (program_plan entry next) (sources_plan k entry [] next) (Some held)) (sym same) (leads_same (program_plan entry next) (Some held))
 past_at entry held all k next (needed {sources} name bytes text turns needs holds within is) e =
     leads_on _ _ _ (Some held) (past_at entry held sources (suc k) next turns (omega (arith, e, length-append sources (source name text ∷ []))))
@@ -65,7 +66,7 @@ past_at entry held all k next (needed {sources} name bytes text turns needs hold
     holds_in : (h : Contents) → Some held ≡ Some h → h name ≡ Some bytes
     holds_in h same = subst (λ (h : Contents). h name ≡ Some bytes) (ap (λ o. elim o as (λ _. Contents) [ None ↦ held | Some x ↦ x ]) same) holds
 
-pub past : (entry : List ℕ) (told : Option Contents) (sources : List Source) (k : ℕ) (next : List Source → Tokens → Plan) → WhereTold told (λ held. ReadInTurn entry held sources) → length sources + k ≡ most_files → Leads (program_plan entry next) (sources_plan k entry sources next) told
+pub past : (entry : List ℕ) (told : Option Contents) (sources : List Source) (k : ℕ) (next : List Source → Tokens → Plan) → WhereTold told (λ held. ReadInTurn entry held sources) → length sources + k ≡ most_files + 1 → Leads (program_plan entry next) (sources_plan k entry sources next) told
 past entry told sources k next turns e = record {
   gives = λ held is s text after g. (past_at entry held sources k next (turns held is) e).gives held refl s text after g;
   reaches = λ held is wanted r. (past_at entry held sources k next (turns held is) e).reaches held refl wanted r;
@@ -74,11 +75,12 @@ past entry told sources k next turns e = record {
 -- all files were read, and this is what they make
 pub read_leads : (entry : List ℕ) (told : Option Contents) (sources : List Source) (tokens : Tokens) (next : List Source → Tokens → Plan) → WhereTold told (λ held. ReadInTurn entry held sources) → length sources ≤ most_files → Preprocesses entry sources (Ok tokens) → Leads (program_plan entry next) (next sources tokens) told
 read_leads entry told sources tokens next turns few makes =
-    leads_on _ _ _ told (past entry told sources (most_files - length sources) next turns (omega (arith, few))) (found (most_files - length sources))
-  where
-    found : (k : ℕ) → Leads (sources_plan k entry sources next) (next sources tokens) told
-    found zero = leads_finding _ _ _ told (Ok tokens) makes
-    found (suc k) = leads_finding _ _ _ told (Ok tokens) makes
+    leads_on _ _ _ told (past entry told sources (suc (most_files - length sources)) next turns (omega (arith, few))) (leads_finding _ _ _ told (Ok tokens) makes)
+
+-- the files that were read were needed in turn
+pub met_in_turn : (entry : List ℕ) (told : Option Contents) (old new : List Source) → NeededInTurn entry old → NeedMet entry told old new → NeededInTurn entry new
+met_in_turn entry told old new turns met =
+    subst (NeededInTurn entry) (sym met.grew) (one_more met.added turns (subst (λ name. Preprocesses entry old (Err (Need name))) (sym met.is.named) met.needs))
 
 -- one more file
 pub turn_on : (entry : List ℕ) (told told_mid : Option Contents) (old new : List Source) → told_mid ≡ told → WhereTold told (λ held. ReadInTurn entry held old) → NeedMet entry told_mid old new → WhereTold told (λ held. ReadInTurn entry held new)
@@ -90,9 +92,16 @@ turn_on entry told told_mid old new again turns met held is =
     same : (name : List ℕ) (s : Source) → s.name ≡ name → source name s.text ≡ s
     same name s e = subst (λ n. source n s.text ≡ s) e refl
 
+-- one time is left
+once_more : (entry : List ℕ) (sources : List Source) (told : Option Contents) (before now : ReadCounts) (s : Status) → length sources ≤ most_files
+    → Refused Never (sources_plan (suc (most_files - length sources)) entry sources (λ sources tokens. never)) told before now s → Refused Never (sources_plan (most_files + 1 - length sources) entry sources (λ sources tokens. never)) told before now s
+once_more entry sources told before now s few r =
+    subst (λ k. Refused Never (sources_plan k entry sources (λ sources tokens. never)) told before now s) (let e : suc (most_files - length sources) ≡ most_files + 1 - length sources = omega (arith, few) in e) r
+
 -- a plan of files refuses what preprocessing refuses
-pub files_refused : (k : ℕ) (entry : List ℕ) (sources : List Source) (told : Option Contents) (before now : ReadCounts) (s : Status) → FilesRefused entry sources s → Refused Never (sources_plan k entry sources (λ sources tokens. never)) told before now s
-files_refused k entry sources told before now (status.Source given) (fault, other, is, same) = λ held i. gives_at k fault other is same held
+refused_now : (k : ℕ) (entry : List ℕ) (sources : List Source) (told : Option Contents) (before now : ReadCounts) (s : Status) → FilesRefused entry sources s → Refused Never (sources_plan (suc k) entry sources (λ sources tokens. never)) told before now s
+refused_now k entry sources told before now (status.Source given) (fault, other, is, same) =
+    λ held i. (Err fault, is, subst (λ p. Rattle.tester_answer.specs.Answer.Gives p held (status.Source given) [] held) (sym (refusal_of _ fault other)) (ap status.Source same, refl, refl))
   where
     refusal_of : (reads : List ℕ → Plan) (fault : PreFault) → Refusing fault → with_tokens sources (λ sources tokens. never) reads (Err fault) ≡ refuses (status.Source (source_fault sources fault))
     refusal_of reads (Need name) h = absurd h
@@ -104,21 +113,20 @@ files_refused k entry sources told before now (status.Source given) (fault, othe
     refusal_of reads (TooManyFiles span) h = refl
     refusal_of reads (Lex fault) h = refl
     refusal_of reads OutOfMemory h = absurd h
+refused_now k entry sources told before now status.OutOfMemory h = tt
+refused_now k entry sources told before now status.Done h = absurd h
+refused_now k entry sources told before now (status.Usage rule) h = absurd h
+refused_now k entry sources told before now (status.Settings rule key) h = absurd h
+refused_now k entry sources told before now (status.Prices file row rule) h = absurd h
+refused_now k entry sources told before now (status.CodeFile rule place) h = absurd h
+refused_now k entry sources told before now (status.Grid rule input) h = absurd h
+refused_now k entry sources told before now (status.Absent name) h = absurd h
+refused_now k entry sources told before now (status.ReadFault name) h = absurd h
+refused_now k entry sources told before now status.WriteFault h = absurd h
+refused_now k entry sources told before now (status.TooLarge name) h = absurd h
 
-    gives_at : (k : ℕ) (fault : PreFault) → Refusing fault → Preprocesses entry sources (Err fault) → given ≡ source_fault sources fault → (held : Contents) → Rattle.tester_answer.specs.Answer.Gives (sources_plan k entry sources (λ sources tokens. never)) held (status.Source given) [] held
-    gives_at zero fault other is same held = (Err fault, is, subst (λ p. Rattle.tester_answer.specs.Answer.Gives p held (status.Source given) [] held) (sym (refusal_of _ fault other)) (ap status.Source same, refl, refl))
-    gives_at (suc k) fault other is same held = (Err fault, is, subst (λ p. Rattle.tester_answer.specs.Answer.Gives p held (status.Source given) [] held) (sym (refusal_of _ fault other)) (ap status.Source same, refl, refl))
-files_refused k entry sources told before now status.OutOfMemory h = tt
-files_refused k entry sources told before now status.Done h = absurd h
-files_refused k entry sources told before now (status.Usage rule) h = absurd h
-files_refused k entry sources told before now (status.Settings rule key) h = absurd h
-files_refused k entry sources told before now (status.Prices file row rule) h = absurd h
-files_refused k entry sources told before now (status.CodeFile rule place) h = absurd h
-files_refused k entry sources told before now (status.Grid rule input) h = absurd h
-files_refused k entry sources told before now (status.Absent name) h = absurd h
-files_refused k entry sources told before now (status.ReadFault name) h = absurd h
-files_refused k entry sources told before now status.WriteFault h = absurd h
-files_refused k entry sources told before now (status.TooLarge name) h = absurd h
+pub files_refused : (entry : List ℕ) (sources : List Source) (told : Option Contents) (before now : ReadCounts) (s : Status) → length sources ≤ most_files → FilesRefused entry sources s → Refused Never (sources_plan (most_files + 1 - length sources) entry sources (λ sources tokens. never)) told before now s
+files_refused entry sources told before now s few h = once_more entry sources told before now s few (refused_now (most_files - length sources) entry sources told before now s h)
 
 -- a text that is refused
 pub text_refused : (name bytes : List ℕ) (told : Option Contents) (before mid now : ReadCounts) (s : Status) → IsReading name source_limit told bytes → NoneFell before mid → NoneFell mid now → TextRefused name bytes s → Refused Never (file_plan name) told before now s
@@ -146,10 +154,10 @@ need_leads j entry sources told name needs =
     (λ bytes. texts_lead name (text_of bytes) (λ text. sources_plan j entry (sources ++ source name text ∷ []) (λ sources tokens. never)) (λ text. never) told (λ text. leads_never _ told)))
 
 -- the file that is needed is refused
-pub needed_refused : (entry : List ℕ) (sources : List Source) (told : Option Contents) (before mid now : ReadCounts) (s : Status) (name : List ℕ) → length sources + 1 ≤ most_files → NoneFell before mid → Preprocesses entry sources (Err (Need name)) → Refused Never (file_plan name) told mid now s → Refused Never (sources_plan (most_files - length sources) entry sources (λ sources tokens. never)) told before now s
+pub needed_refused : (entry : List ℕ) (sources : List Source) (told : Option Contents) (before mid now : ReadCounts) (s : Status) (name : List ℕ) → length sources ≤ most_files → NoneFell before mid → Preprocesses entry sources (Err (Need name)) → Refused Never (file_plan name) told mid now s → Refused Never (sources_plan (most_files + 1 - length sources) entry sources (λ sources tokens. never)) told before now s
 needed_refused entry sources told before mid now s name few fell needs r =
-    subst (λ k. Refused Never (sources_plan k entry sources (λ sources tokens. never)) told before now s) (let e : suc (most_files - (length sources + 1)) ≡ most_files - length sources = omega (arith, few) in e)
-    (refused_on Never (sources_plan (suc (most_files - (length sources + 1))) entry sources (λ sources tokens. never)) (file_plan name) told before mid now s (need_leads (most_files - (length sources + 1)) entry sources told name needs) fell r)
+    once_more entry sources told before now s few
+    (refused_on Never (sources_plan (suc (most_files - length sources)) entry sources (λ sources tokens. never)) (file_plan name) told before mid now s (need_leads (most_files - length sources) entry sources told name needs) fell r)
 
 -- nothing fell
 pub none_fell_same : (counts : ReadCounts) → NoneFell counts counts
@@ -160,10 +168,10 @@ pub reading_refused : (name : List ℕ) (told : Option Contents) (before now : R
 reading_refused name told before now s r = refused_here Never name source_limit (λ bytes. with_text name (text_of bytes) (λ text. never)) told before now s r
 
 -- a refusal of the files to come is one of the program
-pub program_refused : (entry : List ℕ) (sources : List Source) (told told_mid : Option Contents) (before mid now : ReadCounts) (s : Status) → told_mid ≡ told → WhereTold told (λ held. ReadInTurn entry held sources) → length sources ≤ most_files → NoneFell before mid → Refused Never (sources_plan (most_files - length sources) entry sources (λ sources tokens. never)) told_mid mid now s → Refused Never (program_plan entry (λ sources tokens. never)) told before now s
+pub program_refused : (entry : List ℕ) (sources : List Source) (told told_mid : Option Contents) (before mid now : ReadCounts) (s : Status) → told_mid ≡ told → WhereTold told (λ held. ReadInTurn entry held sources) → length sources ≤ most_files → NoneFell before mid → Refused Never (sources_plan (most_files + 1 - length sources) entry sources (λ sources tokens. never)) told_mid mid now s → Refused Never (program_plan entry (λ sources tokens. never)) told before now s
 program_refused entry sources told told_mid before mid now s same turns few fell r =
-    refused_on Never _ _ told before mid now s (past entry told sources (most_files - length sources) (λ sources tokens. never) turns (omega (arith, few))) fell
-    (subst (λ t. Refused Never (sources_plan (most_files - length sources) entry sources (λ sources tokens. never)) t mid now s) same r)
+    refused_on Never _ _ told before mid now s (past entry told sources (most_files + 1 - length sources) (λ sources tokens. never) turns (omega (arith, few))) fell
+    (subst (λ t. Refused Never (sources_plan (most_files + 1 - length sources) entry sources (λ sources tokens. never)) t mid now s) same r)
 
 -- one status, where each program's tokens give one
 pub tokens_one : (sources : List Source) (next : List Source → Tokens → Plan) (reads : List ℕ → Plan) → ((sources : List Source) (tokens : Tokens) → OneStatus (next sources tokens)) → ((name : List ℕ) → OneStatus (reads name)) → (answer : Result Tokens PreFault) → OneStatus (with_tokens sources next reads answer)
@@ -238,8 +246,7 @@ text_one name (Ok text) next each = each text
 text_one name (Err fault) next each = refuses_one _
 
 pub sources_one : OneAnswer → (k : ℕ) (entry : List ℕ) (sources : List Source) (next : List Source → Tokens → Plan) → ((sources : List Source) (tokens : Tokens) → OneStatus (next sources tokens)) → OneStatus (sources_plan k entry sources next)
-sources_one one zero entry sources next each =
-    finds_one (Result Tokens PreFault) (Preprocesses entry sources) (with_tokens sources next (λ name. never)) (one entry sources) (tokens_one sources next (λ name. never) each (λ name. never_one))
+sources_one one zero entry sources next each = never_one
 sources_one one (suc k) entry sources next each =
     finds_one (Result Tokens PreFault) (Preprocesses entry sources) (with_tokens sources next (λ name. Reads name source_limit (λ bytes. with_text name (text_of bytes) (λ text. sources_plan k entry (sources ++ source name text ∷ []) next)))) (one entry sources)
     (tokens_one sources next (λ name. Reads name source_limit (λ bytes. with_text name (text_of bytes) (λ text. sources_plan k entry (sources ++ source name text ∷ []) next))) each

@@ -1,5 +1,5 @@
 -- What tells the fault of a source. Own.
-use Rattle.std.specs.Prelude.{◌≡◌, ℕ, List, [], ◌∷◌, Option, Some, None, slice_get}
+use Rattle.std.specs.Prelude.{◌≡◌, ℕ, List, [], Option, Some, None, slice_get}
 use Rattle.mql_tree.specs.declared.text.TextFault.{TextFault}
 use Rattle.mql_tree.specs.declared.text.TextFault.TheVariants as text
 use Rattle.mql_tree.specs.declared.token.LexFault.{LexFault}

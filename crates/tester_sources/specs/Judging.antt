@@ -1,5 +1,5 @@
 -- The tokens of a program are judged: their tree, and whether it is of the form that is built so far. Own.
-use Rattle.std.specs.Prelude.{◌≡◌, ◌≤◌, ◌-◌, ℕ, List, [], ◌∷◌, length, Option, Some, None, Result, Ok, Err, slice_get}
+use Rattle.std.specs.Prelude.{◌≡◌, ◌-◌, ℕ, List, length, Option, Some, None, Result, Ok, Err, slice_get}
 use Rattle.mql_tree.specs.declared.token.Span.{Span}
 use Rattle.mql_tree.specs.declared.token.Token as token
 use Rattle.mql_tree.specs.declared.token.Tree.{Tree}
@@ -13,8 +13,8 @@ use Rattle.tester_answer.specs.declared.status.SourceFault.{SourceFault}
 use Rattle.tester_answer.specs.declared.status.Status.{Status}
 use Rattle.tester_answer.specs.declared.status.Status.TheVariants as status
 use Rattle.tester_answer.specs.Answer.{Plan, Finds, refuses}
-use Rattle.tester_sources.specs.Faults.{at_span, TellsFault}
-use Rattle.tester_sources.specs.Reading.{Tokens, never}
+use Rattle.tester_sources.specs.Faults.{at_span}
+use Rattle.tester_sources.specs.Reading.{Tokens}
 
 -- the place of a token that is there
 abbrev pub span_of : Option (token.Token × Span) → Option Span

@@ -1,5 +1,5 @@
 -- The sources of a program are read in the order of need. Own.
-use Rattle.std.specs.Prelude.{◌≡◌, ◌≤◌, ℕ, zero, suc, List, [], ◌∷◌, ◌++◌, length, Option, Some, None, Result, Ok, Err}
+use Rattle.std.specs.Prelude.{◌≡◌, ◌+◌, ◌≤◌, ℕ, zero, suc, List, [], ◌∷◌, ◌++◌, length, Option, Some, Result, Ok, Err}
 use Rattle.tester_io.specs.Outside.{Contents}
 use Rattle.mql_tree.specs.declared.text.TextFault.{TextFault}
 use Rattle.mql_tree.specs.declared.token.Span.{Span}
@@ -7,7 +7,7 @@ use Rattle.mql_tree.specs.declared.token.Token as token
 use Rattle.mql_tree.specs.Text.{text_of}
 use Rattle.mql_preproc.specs.declared.source.Source.{Source}
 use Rattle.mql_preproc.specs.declared.fault.PreFault.{PreFault}
-use Rattle.mql_preproc.specs.declared.fault.PreFault.TheVariants.{Need, BadDirective, UnclosedIf, MacroArity, Depth, TooManyTokens, TooManyFiles, Lex, OutOfMemory}
+use Rattle.mql_preproc.specs.declared.fault.PreFault.TheVariants.{Need, OutOfMemory}
 use Rattle.mql_preproc.specs.Reading.{Preprocesses}
 use Rattle.tester_answer.specs.declared.status.Status.{Status}
 use Rattle.tester_answer.specs.declared.status.Status.TheVariants as status
@@ -48,17 +48,18 @@ with_tokens sources next reads (Ok tokens) = next sources tokens
 with_tokens sources next reads (Err (Need name)) = reads name
 with_tokens sources next reads (Err fault) = refuses (status.Source (source_fault sources fault))
 
--- The tokens of a program, where these files were read and so many more may be: what preprocessing makes of the files; a
--- file that it needs is read, and its text is judged as it is read. With 512 files none is needed.
+-- The tokens of a program, where these files were read and preprocessing may be asked so many more times: what it makes of
+-- the files; a file that it needs is read, and its text is judged as it is read.
 abbrev pub sources_plan : ℕ → List ℕ → List Source → (List Source → Tokens → Plan) → Plan
-sources_plan zero entry sources next = Finds (Result Tokens PreFault) (Preprocesses entry sources) (with_tokens sources next (λ name. never))
+sources_plan zero entry sources next = never
 sources_plan (suc more) entry sources next =
     Finds (Result Tokens PreFault) (Preprocesses entry sources)
     (with_tokens sources next (λ name. Reads name source_limit (λ bytes. with_text name (text_of bytes) (λ text. sources_plan more entry (sources ++ source name text ∷ []) next))))
 
--- the plan of a program that begins with its entry
+-- The plan of a program that begins with its entry. Preprocessing is asked with no file, with one, and so on to 512: files that
+-- were needed in turn are no more, so the end that is never reached is none.
 unfoldable pub program_plan : List ℕ → (List Source → Tokens → Plan) → Plan
-program_plan entry next = sources_plan most_files entry [] next
+program_plan entry next = sources_plan (most_files + 1) entry [] next
 
 -- the files that were read, each needed by those before it
 pub data ReadInTurn (entry : List ℕ) (held : Contents) : List Source → Type 0 where

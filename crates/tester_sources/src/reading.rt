@@ -2,13 +2,14 @@
 ghost use Rattle.std.specs.Prelude.{◌≡◌, ◌≤◌, ◌-◌, ◌^◌, ℕ, Ok, length, All, IfOk, IfErr, IfSome, MatchOption};
 ghost use Rattle.mql_tree.specs.Text.{text_of};
 ghost use Rattle.mql_preproc.specs.Reading.{Preprocesses};
+ghost use Rattle.mql_preproc.specs.Turns.{NeededInTurn};
 ghost use Rattle.tester_io.specs.Outside.{WhereTold};
 ghost use Rattle.tester_answer.specs.Clauses.{counts, NoneFell, Refused, Never};
 ghost use Rattle.tester_sources.specs.Reading.{IsSource, IsWanted, FewTokens, FilesRefused, TextRefused, NeedMet, ReadInTurn, file_plan, sources_plan, program_plan, never};
 
 use crate::fault::{refusal, text_status};
 use fx8::{Text, Text8};
-use mql_preproc::{Source, Sources, preprocess};
+use mql_preproc::{Source, Sources, needed_in_turn, preprocess};
 use mql_tree::{Tokens, text_of_bytes};
 use std::alloc::Global;
 use tester_answer::Status;
@@ -17,9 +18,6 @@ use tester_io::Files;
 
 /// The most bytes of a source.
 const SOURCE_LIMIT: u64 = 4_194_304;
-
-/// A program has at most so many files.
-const MOST_FILES: u64 = 512;
 
 /// What preprocessing makes of the files so far.
 #[derive(Drop)]
@@ -81,7 +79,7 @@ fn turn<F: Files>(
     sources: &mut Sources,
     files: &mut F,
 ) -> Result<Option<Tokens>, Status>
-    requires few { length sources.old ≤ 512 }
+    requires turns { NeededInTurn entry.now sources.old }
     requires texts { All (λ s. length s.text ≤ 1048576) sources.old }
     ensures same { F.told files.new ≡ F.told files.old }
     ensures none_fell { NoneFell (counts (F.absents files.old) (F.read_faults files.old) (F.oversizes files.old))
@@ -89,20 +87,16 @@ fn turn<F: Files>(
     ensures read { IfOk result (λ found. MatchOption found (NeedMet entry.now (F.told files.old) sources.old sources.new)
         (λ tokens. (sources.new ≡ sources.old) × Preprocesses entry.now sources.old (Ok tokens))) }
     ensures few { IfOk result (λ found. IfSome found (λ tokens. length tokens ≤ 400000)) }
-    ensures still_few { IfOk result (λ found. length sources.new ≤ 512) }
     ensures still_short { IfOk result (λ found. All (λ s. length s.text ≤ 1048576) sources.new) }
-    ensures refused { IfErr result (Refused Never (sources_plan (512 - length sources.old) entry.now sources.old (λ sources tokens. never)) (F.told files.old)
+    ensures refused { IfErr result (Refused Never (sources_plan (513 - length sources.old) entry.now sources.old (λ sources tokens. never)) (F.told files.old)
         (counts (F.absents files.old) (F.read_faults files.old) (F.oversizes files.old))
         (counts (F.absents files.new) (F.read_faults files.new) (F.oversizes files.new))) }
 {
+    needed_in_turn();
     let name = match make_wanted(alloc, entry, sources)? {
         Wanted::Tokens(tokens) => return Ok(Some(tokens)),
         Wanted::File(name) => name,
     };
-    // With so many files none is needed.
-    if sources.len() >= MOST_FILES {
-        return Err(Status::OutOfMemory);
-    }
     let source = read_source(alloc, files, name)?;
     sources.push(source)?;
     Ok(None)
@@ -127,11 +121,11 @@ pub fn read_sources<F: Files>(
         (counts (F.absents files.old) (F.read_faults files.old) (F.oversizes files.old))
         (counts (F.absents files.new) (F.read_faults files.new) (F.oversizes files.new))) }
 {
+    needed_in_turn();
     let mut sources = Sources::new(alloc);
-    for _ in 0..513u32 {
+    loop {
         if let Some(tokens) = turn(alloc, entry, &mut sources, files)? {
             return Ok((sources, tokens));
         }
     }
-    Err(Status::OutOfMemory)
 }

@@ -1,4 +1,3 @@
-use Rattle.std.proofs.Common.{◌+◌, ◌≤◌, length, arith}
 use Rattle.std.proofs.lemmas.Result.{err_from_is_err_and}
 use Rattle.tester_answer.specs.Clauses.{counts}
 use Rattle.tester_sources.proofs.SourceLemmas.{files_refused, needed_refused, none_fell_same}
@@ -8,7 +7,7 @@ pub returns-in_err-tokens-clause-refused : goal.returns-in_err-tokens-clause-ref
 returns-in_err-tokens-clause-refused g c =
     let p = err_from_is_err_and c.from_residual.result c.from_residual.ensures.1 in
     let now = counts (g.F.Files.absents c.args.files.now) (g.F.Files.read_faults c.args.files.now) (g.F.Files.oversizes c.args.files.now) in
-    rw (p.1, p.2) (files_refused _ c.args.entry.now c.args.sources.now (g.F.Files.told c.args.files.now) now now _ c.in_err-tokens.ensures.refused)
+    rw (p.1, p.2) (files_refused c.args.entry.now c.args.sources.now (g.F.Files.told c.args.files.now) now now _ (c.needed_in_turn.ensures.few c.args.entry.now c.args.sources.now c.requires.turns) c.in_err-tokens.ensures.refused)
 
 pub returns-in_err-source-clause-refused : goal.returns-in_err-source-clause-refused
 returns-in_err-source-clause-refused g c =
@@ -18,4 +17,4 @@ returns-in_err-source-clause-refused g c =
     rw (p.1, p.2)
     (needed_refused c.args.entry.now c.args.sources.now (g.F.Files.told c.args.files.now) before before
     (counts (g.F.Files.absents c.read_source.new.files) (g.F.Files.read_faults c.read_source.new.files) (g.F.Files.oversizes c.read_source.new.files))
-    _ c.in-File.name (let few : length c.args.sources.now + 1 ≤ 512 = omega (arith, c.if-len-ge-MOST_FILES.false, c.len.ensures) in few) (none_fell_same before) needs c.in_err-source.ensures.refused)
+    _ c.in-File.name (c.needed_in_turn.ensures.few c.args.entry.now c.args.sources.now c.requires.turns) (none_fell_same before) needs c.in_err-source.ensures.refused)
