@@ -1,7 +1,5 @@
 -- The plan of a command line has one status over given contents, so where it has Done nothing is refused.
-use Rattle.std.proofs.Common.{◌≡◌, ℕ, Bool, true, false, List, [], ◌∷◌, ◌≤◌, inl, inr, length, Option, Some, None, Result, Ok, ◌++◌, refl, sym, subst, ◌∙◌}
-use Rattle.std.specs.Prelude.{nat_lt}
-use Rattle.std.specs.Bool.{MatchBool}
+use Rattle.std.proofs.Common.{◌≡◌, ℕ, Bool, true, false, List, [], ◌∷◌, ◌≤◌, inl, inr, length, Option, Some, None, Ok, ◌++◌, refl, sym, subst, ◌∙◌}
 use Rattle.std.specs.Str.{bytes_eq}
 use Rattle.std.specs.Prelude.{codes}
 use Rattle.tester_io.specs.Outside.{Contents, WhereTold}
@@ -10,8 +8,8 @@ use Rattle.market_data.specs.declared.bar.Bar.{Bar}
 use Rattle.market_data.specs.BarsFile.{bars_of}
 use Rattle.tester_answer.specs.declared.status.Status.{Status}
 use Rattle.tester_answer.specs.declared.status.Status.TheVariants.{Done, Usage, Prices}
-use Rattle.tester_answer.specs.Answer.{Plan, Reads, Ends, AfterReading, Gives, refusal}
-use Rattle.tester_answer.specs.Clauses.{ReadCounts, NoneFell, IsReading, ReadingRefused, Refused, Never, UsageRefused, HasDone, IsDoneOrMemory}
+use Rattle.tester_answer.specs.Answer.{Plan, Ends, Gives}
+use Rattle.tester_answer.specs.Clauses.{ReadCounts, NoneFell, ReadingRefused, Refused, Never}
 use Rattle.tester_answer.proofs.PlanLemmas.{Leads, leads_on, refused_here, refused_on}
 use Rattle.tester_answer.proofs.OneStatus.{OneStatus, refuses_one, reads_one}
 use Rattle.tester_answer.specs.Answer.{refuses}

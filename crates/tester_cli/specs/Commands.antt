@@ -6,7 +6,6 @@ use Rattle.market_data.specs.declared.bar.Bar.{Bar}
 use Rattle.market_data.specs.BarsFile.{bars_of}
 use Rattle.market_data.specs.Quotes.{opening_quotes}
 use Rattle.tester_cli.specs.declared.result.PassResult.{PassResult}
-use Rattle.tester_answer.specs.declared.status.Status.{Status}
 use Rattle.tester_answer.specs.declared.status.Status.TheVariants.{Done, Usage, Prices}
 use Rattle.tester_answer.specs.Answer.{Ending, Plan, Reads, Ends, refuses}
 use Rattle.mql_tree.specs.declared.token.Tree.{Tree}

@@ -1,5 +1,5 @@
 -- From the texts of a source to a program. Own, with MQL5 Reference, Language Basics.
-use Rattle.std.specs.Prelude.{◌≡◌, ◌⊎◌, ℕ, List, Result, Ok, Err}
+use Rattle.std.specs.Prelude.{◌≡◌, ◌⊎◌, ℕ, List, Ok, Err}
 use Rattle.mql_tree.specs.declared.token.Tree.{Tree}
 use Rattle.mql_preproc.specs.declared.source.Source.{Source}
 use Rattle.mql_preproc.specs.declared.fault.PreFault.TheVariants as preprocessing
