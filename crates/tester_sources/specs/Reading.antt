@@ -56,8 +56,8 @@ sources_plan (suc more) entry sources next =
     Finds (Result Tokens PreFault) (Preprocesses entry sources)
     (with_tokens sources next (λ name. Reads name source_limit (λ bytes. with_text name (text_of bytes) (λ text. sources_plan more entry (sources ++ source name text ∷ []) next))))
 
--- The plan of a program that begins with its entry. Preprocessing is asked with no file, with one, and so on to 512: files that
--- were needed in turn are no more, so the end that is never reached is none.
+-- The plan of a program that begins with its entry. Preprocessing is asked with no file, with one, and so on, at most with 512:
+-- files that were needed in turn are no more, so the times never run out.
 unfoldable pub program_plan : List ℕ → (List Source → Tokens → Plan) → Plan
 program_plan entry next = sources_plan (most_files + 1) entry [] next
 
