@@ -3,7 +3,7 @@ use Rattle.std.proofs.Common.{◌≡◌, ℕ, Bool, true, false, List, [], ◌�
 use Rattle.std.specs.Option.{option_map}
 use Rattle.market_data.specs.BarsFile.{ended, rows, row, bars_in, given, parts, bars_of, bars_of_lines, in_order, header, provided}
 use Rattle.std.specs.Str.{bytes_eq}
-use Rattle.market_data.specs.declared.bar.Bar.{Bar}
+use Rattle.market_types.specs.declared.bar.Bar.{Bar}
 
 -- bars read before those that are left
 abbrev pub after : List Bar → Option (List Bar) → Option (List Bar)

@@ -2,8 +2,8 @@
 use Rattle.std.proofs.Common.{◌≡◌, ℕ, suc, ◌-◌, ◌<◌, ◌≤◌, List, [], ◌∷◌, length, get_or, take, drop, refl, sym, ap, subst, ◌∙◌, arith, take_all}
 use Rattle.std.specs.Prelude.{All}
 use Rattle.market_data.specs.BarsFile.{IsBar}
-use Rattle.market_data.specs.declared.quote.Quote.{Quote}
-use Rattle.market_data.specs.declared.bar.Bar.{Bar}
+use Rattle.market_types.specs.declared.quote.Quote.{Quote}
+use Rattle.market_types.specs.declared.bar.Bar.{Bar}
 use Rattle.market_data.specs.declared.quotes.Stage.{Stage}
 use Rattle.market_data.specs.declared.quotes.Stage.TheVariants as stage
 use Rattle.market_data.specs.Quotes.{quote, opening_quotes}

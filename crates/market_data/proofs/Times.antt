@@ -5,8 +5,8 @@ use Rattle.std.proofs.lemmas.Int.{ints}
 use Rattle.std.proofs.lemmas.Bool.{and_parts}
 use Rattle.market_data.specs.BarsFile.{IsBar, IsMoment, is_rising}
 use Rattle.market_data.specs.Quotes.{AreTimed, opening_quotes}
-use Rattle.market_data.specs.declared.bar.Bar.{Bar}
-use Rattle.market_data.specs.declared.quote.Quote.{Quote}
+use Rattle.market_types.specs.declared.bar.Bar.{Bar}
+use Rattle.market_types.specs.declared.quote.Quote.{Quote}
 
 pub minute_of : (day : ℤ) (s : ℕ) → pos 0 ≤ℤ day → s % 60 ≡ 0 → unsigned_abs (day *ℤ pos 86400 +ℤ pos s) % 60 ≡ 0
 minute_of (pos d) s h e = omega arith

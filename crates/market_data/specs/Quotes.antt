@@ -1,8 +1,8 @@
 -- The quotes that bars give at opening prices (MetaTrader 5 Help, Strategy Tester: Open prices only; the times are our own).
 use Rattle.std.specs.Prelude.{ℕ, ◌-◌, ◌*◌, ◌^◌, Bool, true, false, List, [], ◌∷◌, ◌++◌, if◌then◌else◌, ℤ, pos, ◌+ℤ◌, ◌*ℤ◌, int_le, ◌≤ℤ◌}
 use Rattle.market_data.specs.BarsFile.{IsPrice}
-use Rattle.market_data.specs.declared.bar.Bar.{Bar}
-use Rattle.market_data.specs.declared.quote.Quote.{Quote}
+use Rattle.market_types.specs.declared.bar.Bar.{Bar}
+use Rattle.market_types.specs.declared.quote.Quote.{Quote}
 
 -- a point, the last decimal that the symbol's prices show, in units of 10^-8
 abbrev pub point : ℕ → ℕ

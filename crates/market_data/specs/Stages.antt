@@ -1,7 +1,7 @@
 -- The stages of a bar, at each of which it gives one quote.
 use Rattle.std.specs.Prelude.{ℕ, Bool, true, false, List, drop, if◌then◌else◌, ℤ}
-use Rattle.market_data.specs.declared.bar.Bar.{Bar}
-use Rattle.market_data.specs.declared.quote.Quote.{Quote}
+use Rattle.market_types.specs.declared.bar.Bar.{Bar}
+use Rattle.market_types.specs.declared.quote.Quote.{Quote}
 use Rattle.market_data.specs.declared.quotes.Stage.{Stage}
 use Rattle.market_data.specs.declared.quotes.Stage.TheVariants as stage
 use Rattle.market_data.specs.Quotes.{rises, opening_quotes}

@@ -1,19 +1,16 @@
 //! Price files and the quotes that they give.
 #![tactic(auto)]
 
-mod bar;
 mod bars_file;
 mod moment;
 mod numbers;
 mod parts;
-mod quote;
 mod quotes;
 mod row_fault;
 mod rows;
 
-pub use bar::{Bar, BarList};
 pub use bars_file::read_bars;
-pub use quote::{Quote, QuoteList};
+pub use market_types::{Bar, BarList, Quote, QuoteList};
 pub use quotes::Quotes;
 pub use row_fault::RowFault;
 

@@ -142,7 +142,7 @@ pub struct Quotes<'a> {
 
 impl<'a> Model for Quotes<'a> {
     ghost use Rattle.std.specs.Prelude.{List, ◌≤◌, All};
-    ghost use Rattle.market_data.specs.declared.quote.Quote.{Quote};
+    ghost use Rattle.market_types.specs.declared.quote.Quote.{Quote};
     ghost use Rattle.market_data.specs.BarsFile.{IsBar};
     ghost use Rattle.market_data.specs.Stages.{quotes_left};
 

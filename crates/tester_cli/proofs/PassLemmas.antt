@@ -19,7 +19,7 @@ use Rattle.mql_mean.specs.declared.tree.Entry.TheVariants.{Tick}
 use Rattle.mql_lower.specs.Follows.{Follows, Told}
 use Rattle.std.specs.Bool.{MatchBool}
 use Rattle.std.proofs.lemmas.List.Elements.{All-push}
-use Rattle.market_data.specs.declared.quote.Quote.{Quote}
+use Rattle.market_types.specs.declared.quote.Quote.{Quote}
 use Rattle.tester_cli.specs.declared.result.Printed.{Printed}
 use Rattle.tester_cli.specs.declared.result.PassEnd.{PassEnd}
 use Rattle.tester_cli.specs.declared.result.PassResult.{PassResult}

@@ -3,8 +3,8 @@ use Rattle.std.proofs.Common.{◌≡◌, pos, ◌*◌, ◌+ℤ◌, ◌*ℤ◌, t
 use Rattle.std.specs.Prelude.{All}
 use Rattle.std.proofs.lemmas.Int.{ints}
 use Rattle.std.proofs.lemmas.List.Elements.{All-head, All-tail}
-use Rattle.market_data.specs.declared.bar.Bar.{Bar}
-use Rattle.market_data.specs.declared.quote.Quote.{Quote}
+use Rattle.market_types.specs.declared.bar.Bar.{Bar}
+use Rattle.market_types.specs.declared.quote.Quote.{Quote}
 use Rattle.market_data.specs.BarsFile.{IsBar}
 use Rattle.market_data.specs.Quotes.{opening_quotes}
 use Rattle.tester_cli.specs.Times.{IsReportTime}

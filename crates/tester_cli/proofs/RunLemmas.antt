@@ -4,7 +4,7 @@ use Rattle.std.specs.Str.{bytes_eq}
 use Rattle.std.specs.Prelude.{codes}
 use Rattle.tester_io.specs.Outside.{Contents, WhereTold}
 use Rattle.mql_mean.specs.declared.tree.Checked.{Checked}
-use Rattle.market_data.specs.declared.bar.Bar.{Bar}
+use Rattle.market_types.specs.declared.bar.Bar.{Bar}
 use Rattle.market_data.specs.BarsFile.{bars_of}
 use Rattle.tester_answer.specs.declared.status.Status.{Status}
 use Rattle.tester_answer.specs.declared.status.Status.TheVariants.{Done, Usage, Prices}

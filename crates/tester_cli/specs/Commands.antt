@@ -2,7 +2,7 @@
 use Rattle.std.specs.Prelude.{◌≡◌, ℕ, Bool, true, false, List, [], ◌∷◌, ◌++◌, Option, Some, None, codes}
 use Rattle.std.specs.Str.{bytes_eq}
 use Rattle.mql_mean.specs.declared.tree.Checked.{Checked}
-use Rattle.market_data.specs.declared.bar.Bar.{Bar}
+use Rattle.market_types.specs.declared.bar.Bar.{Bar}
 use Rattle.market_data.specs.BarsFile.{bars_of}
 use Rattle.market_data.specs.Quotes.{opening_quotes}
 use Rattle.tester_cli.specs.declared.result.PassResult.{PassResult}

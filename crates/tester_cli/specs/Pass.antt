@@ -11,7 +11,7 @@ use Rattle.stack_vm.specs.declared.machine.End.TheVariants.{Returned, Error, Exh
 use Rattle.mql_mean.specs.Means.{event}
 use Rattle.stack_vm.specs.Valid.{is_some}
 use Rattle.mql_lower.specs.Follows.{Told}
-use Rattle.market_data.specs.declared.quote.Quote.{Quote}
+use Rattle.market_types.specs.declared.quote.Quote.{Quote}
 use Rattle.tester_cli.specs.declared.result.PassEnd.{PassEnd}
 use Rattle.tester_cli.specs.declared.result.PassEnd.TheVariants as end
 use Rattle.tester_cli.specs.declared.result.PassResult.{PassResult}

@@ -3,7 +3,7 @@ use Rattle.std.specs.Prelude.{All}
 use Rattle.std.proofs.lemmas.Bool.{eqb-false}
 use Rattle.std.proofs.lemmas.List.Elements.{All-push}
 use Rattle.market_data.specs.BarsFile.{bars_in, row, IsBar}
-use Rattle.market_data.specs.declared.bar.Bar.{Bar}
+use Rattle.market_types.specs.declared.bar.Bar.{Bar}
 use Rattle.market_data.proofs.Bodies.{after, after_push, empty_line, good_line}
 use Rattle.market_data.proofs.bars_file.bars_in.Goals as goal
 

@@ -2,7 +2,7 @@ use Rattle.std.proofs.Common.{◌≡◌, List, ◌++◌, length}
 use Rattle.std.specs.Prelude.{All}
 use Rattle.std.specs.Option.{option_map}
 use Rattle.market_data.specs.BarsFile.{bars_in, IsBar}
-use Rattle.market_data.specs.declared.bar.Bar.{Bar}
+use Rattle.market_types.specs.declared.bar.Bar.{Bar}
 use Rattle.market_data.proofs.bars_file.bars_in.Given as goal
 
 abbrev pub invariant-loop-line : goal.invariant-loop-line
