@@ -1,5 +1,6 @@
 -- How numbers are read.
 use Rattle.std.proofs.Common.{◌≡◌, ℕ, true, false, List, [], ◌∷◌, ◌++◌, append-nil, Option, Some, Ok, Err, refl, sym, ap, ◌∙◌, subst}
+use Rattle.mql_forms.specs.declared.form.Form.{Form}
 use Rattle.mql_tree.specs.declared.token.Span.{Span}
 use Rattle.mql_tree.specs.declared.token.Token.{Token}
 use Rattle.mql_tree.specs.declared.token.Tree.{Tree, Leaf, Row_of-Tree, end_of-Tree, more_of-Tree}
@@ -25,7 +26,7 @@ module _ (tokens : List (Token × Span)) (scope : Scope) where
   numbers_row n end_of-Tree = refl
   numbers_row n (more_of-Tree t ts) = ap (with_number (stands tokens scope part.Number t) (number tokens scope t)) (numbers_row _ ts)
 
-  number_node : (form : ℕ) (ts : List Tree) → number tokens scope (v.Node form ts) ≡ formed (number_form tokens scope (node_kind form) ts) (first (v.Node form ts)) (numbers_in tokens scope ts)
+  number_node : (form : Form) (ts : List Tree) → number tokens scope (v.Node form ts) ≡ formed (number_form tokens scope (node_kind form) ts) (first (v.Node form ts)) (numbers_in tokens scope ts)
   unfolding number
   number_node form ts =
       let row = row_of (v.Node form ts) in
@@ -41,7 +42,7 @@ module _ (tokens : List (Token × Span)) (scope : Scope) where
   leaf_is tree k o e h = ap (number tokens scope) e ∙ number_leaf k ∙ ap (λ t. there (operand_of scope (leaf tokens t)) (Some k) Ok) (sym e) ∙ ap (λ o. there o (Some k) Ok) (sym h)
 
   -- a node
-  pub node_is : (tree : Tree) (form : ℕ) (ts slice : List Tree) (place : Option ℕ) (kind : NodeKind) (o : Option NumberForm) → tree ≡ v.Node form ts → place ≡ first tree → kind ≡ node_kind form → slice ≡ ts → o ≡ number_form tokens scope kind slice → number tokens scope tree ≡ formed o place (numbers_in tokens scope slice)
+  pub node_is : (tree : Tree) (form : Form) (ts slice : List Tree) (place : Option ℕ) (kind : NodeKind) (o : Option NumberForm) → tree ≡ v.Node form ts → place ≡ first tree → kind ≡ node_kind form → slice ≡ ts → o ≡ number_form tokens scope kind slice → number tokens scope tree ≡ formed o place (numbers_in tokens scope slice)
   node_is tree form ts slice place kind o e p k s h =
       ap (number tokens scope) e ∙ number_node form ts
       ∙ ap (λ l. formed (number_form tokens scope (node_kind form) l) (first (v.Node form ts)) (numbers_in tokens scope l)) (sym s)

@@ -1,5 +1,6 @@
 -- How statements are read.
 use Rattle.std.proofs.Common.{◌≡◌, ℕ, Bool, true, false, List, [], ◌∷◌, ◌++◌, length, take, append_assoc, append-nil, Option, Some, Ok, Err, refl, sym, ap, ◌∙◌, subst}
+use Rattle.mql_forms.specs.declared.form.Form.{Form}
 use Rattle.mql_tree.specs.declared.token.Span.{Span}
 use Rattle.mql_tree.specs.declared.token.Token.{Token}
 use Rattle.mql_tree.specs.declared.token.Tree.{Tree, Leaf, Row_of-Tree, end_of-Tree, more_of-Tree}
@@ -112,7 +113,7 @@ module _ (tokens : List (Token × Span)) where
   abbrev of_parts : Bool → Scope → ℕ → Option ℕ → List Tree → Read Sequence → Read Sequence → NodeKind → Read Stated
   of_parts direct scope line place parts inside under kind = stated tokens (statement_form tokens direct scope kind parts) scope line place parts inside under
 
-  statement_node : (direct : Bool) (scope : Scope) (form : ℕ) (ts : List Tree) → statement tokens direct scope (v.Node form ts) ≡ of_parts direct scope (line_of tokens (first (v.Node form ts))) (first (v.Node form ts)) ts (sequence_in tokens true scope ts) (sequence_in tokens false scope ts) (node_kind form)
+  statement_node : (direct : Bool) (scope : Scope) (form : Form) (ts : List Tree) → statement tokens direct scope (v.Node form ts) ≡ of_parts direct scope (line_of tokens (first (v.Node form ts))) (first (v.Node form ts)) ts (sequence_in tokens true scope ts) (sequence_in tokens false scope ts) (node_kind form)
   unfolding statement
   statement_node direct scope form ts =
       let row = row_of (v.Node form ts) in
@@ -127,7 +128,7 @@ module _ (tokens : List (Token × Span)) where
   statement_leaf direct scope tree k e = ap (statement tokens direct scope) e
 
   -- a node
-  pub statement_is : (direct : Bool) (scope : Scope) (tree : Tree) (form : ℕ) (ts slice : List Tree) (place : Option ℕ) (line : ℕ) (kind : NodeKind) (o : Option StatementForm) → tree ≡ v.Node form ts → place ≡ first tree → line ≡ line_of tokens place → kind ≡ node_kind form → slice ≡ ts → o ≡ statement_form tokens direct scope kind slice → statement tokens direct scope tree ≡ stated tokens o scope line place slice (sequence_in tokens true scope slice) (sequence_in tokens false scope slice)
+  pub statement_is : (direct : Bool) (scope : Scope) (tree : Tree) (form : Form) (ts slice : List Tree) (place : Option ℕ) (line : ℕ) (kind : NodeKind) (o : Option StatementForm) → tree ≡ v.Node form ts → place ≡ first tree → line ≡ line_of tokens place → kind ≡ node_kind form → slice ≡ ts → o ≡ statement_form tokens direct scope kind slice → statement tokens direct scope tree ≡ stated tokens o scope line place slice (sequence_in tokens true scope slice) (sequence_in tokens false scope slice)
   statement_is direct scope tree form ts slice place line kind o e p ln k s h =
       let at = p ∙ ap first e in
       ap (statement tokens direct scope) e ∙ statement_node direct scope form ts

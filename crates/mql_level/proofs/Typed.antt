@@ -22,7 +22,7 @@ use Rattle.mql_tree.specs.declared.token.Token.{Token}
 use Rattle.mql_tree.specs.declared.token.Token.TheVariants as token
 use Rattle.mql_level.specs.declared.scope.Scope.{Scope}
 use Rattle.mql_level.specs.Locals.{is_named, visible_among, visible}
-use Rattle.mql_level.specs.Parts.{literal_of, seen_in, local_of, name_of}
+use Rattle.mql_level.specs.Parts.{literal_of, seen_in, local_of, name_in}
 use Rattle.mql_level.specs.Numbers.{operand, operand_of}
 use Rattle.mql_level.specs.Read.{Read, ◌>>=◌, there}
 
@@ -84,7 +84,7 @@ visible_below n names name (k ∷ ks) b = step (is_named names k name) (visible_
 
 pub local_below : (n : ℕ) (scope : Scope) (t : Option Token) → AllBelow n scope.visible → Holds (λ k. k < n) (local_of scope t)
 unfolding local_of visible
-local_below n scope t b = step (name_of t)
+local_below n scope t b = step (name_in t)
   where
     step : (name : Option (List ℕ)) → Holds (λ k. k < n) (seen_in scope name)
     step None = tt

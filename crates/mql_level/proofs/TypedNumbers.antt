@@ -16,11 +16,13 @@ use Rattle.mql_level.specs.declared.number.NumberForm.{NumberForm}
 use Rattle.mql_level.specs.declared.number.NumberForm.TheVariants.{Bracketed, Negated, Joined}
 use Rattle.mql_level.specs.declared.part.Part.{Part}
 use Rattle.mql_level.specs.declared.part.Part.TheVariants.{Sign, Number, Argument}
-use Rattle.mql_level.specs.declared.word.Word.TheVariants as words
+use Rattle.mql_spelling.specs.declared.reserved.ReservedWord.TheVariants as words
+use Rattle.mql_spelling.specs.declared.sign.Sign as mark
+use Rattle.mql_spelling.specs.declared.sign.Sign.TheVariants as signs
 use Rattle.mql_level.specs.declared.scope.Scope.{Scope}
-use Rattle.mql_level.specs.Forms.{node_kind, open_round, close_round, plus, minus, times, divide, remainder, less, less_or_equal, greater, greater_or_equal, equal, not_equal}
+use Rattle.mql_level.specs.Forms.{node_kind}
 use Rattle.mql_level.specs.Leaves.{first, first_among, list_of, leaf, token_at}
-use Rattle.mql_level.specs.Parts.{stands, stand, is_sign, is_word, literal_of, local_of, name_of, is_operand, text_of}
+use Rattle.mql_level.specs.Parts.{stands, stand, has_sign, is_word, literal_of, local_of, name_in, is_operand, text_of}
 use Rattle.mql_level.specs.Numbers.{operand_of, sole, formed, compared, map_joined, is_joined, of_product, of_sum, of_relation, of_equality, bracketed, negated, number_form, comparison_form, with_number, number, numbers_in, truth_of, condition_at, condition}
 use Rattle.mql_level.specs.Statements.{argument_at, argument, with_argument, arguments}
 use Rattle.mql_level.specs.Read.{Read}
@@ -36,35 +38,35 @@ as_good P Q (Ok a) f h = f a h
 as_good P Q (Err place) f h = tt
 
 -- a sign is no number
-not_operand : (scope : Scope) (sign : ℕ) (t : Option Token) → is_sign sign t ≡ true → is_operand scope t ≡ false
-unfolding is_sign is_operand literal_of local_of name_of
+not_operand : (scope : Scope) (sign : mark.Sign) (t : Option Token) → has_sign sign t ≡ true → is_operand scope t ≡ false
+unfolding has_sign is_operand literal_of local_of name_in
 not_operand scope sign (Some (token.Sign number)) h = refl
 not_operand scope sign (Some (token.Name name)) h = cc
 not_operand scope sign (Some (token.Int value kind)) h = cc
 not_operand scope sign (Some (token.Double number)) h = cc
 not_operand scope sign (Some (token.Str text)) h = cc
-not_operand scope sign (Some (token.IncludeName name)) h = cc
+not_operand scope sign (Some (token.IncludeName name place)) h = cc
 not_operand scope sign (Some token.LineEnd) h = cc
 not_operand scope sign None h = cc
 
 -- places of numbers and of signs
-abbrev shape : List (Option ℕ) → List Part
+abbrev shape : List (Option mark.Sign) → List Part
 shape [] = []
 shape (None ∷ os) = Number ∷ shape os
 shape (Some sign ∷ os) = Sign sign ∷ shape os
 
-abbrev counted : List (Option ℕ) → ℕ
+abbrev counted : List (Option mark.Sign) → ℕ
 counted [] = 0
 counted (None ∷ os) = suc (counted os)
 counted (Some sign ∷ os) = counted os
 
 module _ (tokens : List (Token × Span)) (scope : Scope) where
-  not_number : (sign : ℕ) (t : Tree) → stands tokens scope (Sign sign) t ≡ true → stands tokens scope Number t ≡ false
-  unfolding stands is_sign
+  not_number : (sign : mark.Sign) (t : Tree) → stands tokens scope (Sign sign) t ≡ true → stands tokens scope Number t ≡ false
+  unfolding stands has_sign
   not_number sign (Leaf k) h = not_operand scope sign (token_at tokens k) h
   not_number sign (Node' form row parts) h = node_sign h
     where
-      node_sign : is_sign sign None ≡ true → true ≡ false
+      node_sign : has_sign sign None ≡ true → true ≡ false
       node_sign h = cc
 
   -- as many numbers are read as there are places of numbers
@@ -129,46 +131,46 @@ module _ (tokens : List (Token × Span)) (scope : Scope) where
       compared_if true op rest k r = k refl
       compared_if false op rest k r = r
 
-      two : (sign : ℕ) → is_joined tokens scope sign ts ≡ true → Good (λ es. AreInts locals es × (length es ≡ 2)) (numbers_in tokens scope ts)
+      two : (sign : mark.Sign) → is_joined tokens scope sign ts ≡ true → Good (λ es. AreInts locals es × (length es ≡ 2)) (numbers_in tokens scope ts)
       two sign h = both_good (AreInts locals) (λ es. length es ≡ 2) (numbers_in tokens scope ts) (ints_good ts all) (count_good (None ∷ Some sign ∷ None ∷ []) ts h)
 
-      joined_good : (op : IntOperator) (sign : ℕ) → compares op ≡ false → is_joined tokens scope sign ts ≡ true → Right (Some (Joined op))
+      joined_good : (op : IntOperator) (sign : mark.Sign) → compares op ≡ false → is_joined tokens scope sign ts ≡ true → Right (Some (Joined op))
       joined_good op sign c h =
           then_good (λ es. AreInts locals es × (length es ≡ 2)) (IsInt locals) (numbers_in tokens scope ts) _ (two sign h) (λ es k. joined_int locals op es c k.1 k.0)
 
-      compared_good : (op : IntOperator) (sign : ℕ) → compares op ≡ true → is_joined tokens scope sign ts ≡ true → Compared (Some op)
+      compared_good : (op : IntOperator) (sign : mark.Sign) → compares op ≡ true → is_joined tokens scope sign ts ≡ true → Compared (Some op)
       compared_good op sign c h =
           then_good (λ es. AreInts locals es × (length es ≡ 2)) (IsCondition locals) (numbers_in tokens scope ts) _ (two sign h) (λ es k. compared_condition locals op es c k.1 k.0)
 
       formed_good : (k : NodeKind) → Right (number_form tokens scope k ts)
       unfolding number_form bracketed negated of_product of_sum
       formed_good node.Bracket =
-          right_if (stand tokens scope (Sign open_round ∷ Number ∷ Sign close_round ∷ []) ts) Bracketed (λ h.
+          right_if (stand tokens scope (Sign signs.ParenthesisOpen ∷ Number ∷ Sign signs.ParenthesisClose ∷ []) ts) Bracketed (λ h.
           then_good (AreInts locals) (IsInt locals) (numbers_in tokens scope ts) (sole place) (ints_good ts all) (λ es k. sole_good place es k))
       formed_good node.Unary =
-          right_if (stand tokens scope (Sign minus ∷ Number ∷ []) ts) Negated (λ h.
+          right_if (stand tokens scope (Sign signs.Minus ∷ Number ∷ []) ts) Negated (λ h.
           then_good (λ es. AreInts locals es × (length es ≡ 1)) (IsInt locals) (numbers_in tokens scope ts) _
-          (both_good (AreInts locals) (λ es. length es ≡ 1) (numbers_in tokens scope ts) (ints_good ts all) (count_good (Some minus ∷ None ∷ []) ts h))
+          (both_good (AreInts locals) (λ es. length es ≡ 1) (numbers_in tokens scope ts) (ints_good ts all) (count_good (Some signs.Minus ∷ None ∷ []) ts h))
           (λ es k. negative_int locals es k.1 k.0))
       formed_good node.Product =
-          joined_if (is_joined tokens scope times ts) binary.Multiply _ (joined_good binary.Multiply times refl) (
-          joined_if (is_joined tokens scope divide ts) binary.Divide _ (joined_good binary.Divide divide refl) (
-          joined_if (is_joined tokens scope remainder ts) binary.Remainder None (joined_good binary.Remainder remainder refl) tt))
+          joined_if (is_joined tokens scope signs.Star ts) binary.Multiply _ (joined_good binary.Multiply signs.Star refl) (
+          joined_if (is_joined tokens scope signs.Slash ts) binary.Divide _ (joined_good binary.Divide signs.Slash refl) (
+          joined_if (is_joined tokens scope signs.Percent ts) binary.Remainder None (joined_good binary.Remainder signs.Percent refl) tt))
       formed_good node.Sum =
-          joined_if (is_joined tokens scope plus ts) binary.Add _ (joined_good binary.Add plus refl) (
-          joined_if (is_joined tokens scope minus ts) binary.Subtract None (joined_good binary.Subtract minus refl) tt)
+          joined_if (is_joined tokens scope signs.Plus ts) binary.Add _ (joined_good binary.Add signs.Plus refl) (
+          joined_if (is_joined tokens scope signs.Minus ts) binary.Subtract None (joined_good binary.Subtract signs.Minus refl) tt)
       formed_good _ = tt
 
       comparison_good : (k : NodeKind) → Compared (comparison_form tokens scope k ts)
       unfolding comparison_form of_relation of_equality
       comparison_good node.Relation =
-          compared_if (is_joined tokens scope less ts) binary.Less _ (compared_good binary.Less less refl) (
-          compared_if (is_joined tokens scope less_or_equal ts) binary.LessOrEqual _ (compared_good binary.LessOrEqual less_or_equal refl) (
-          compared_if (is_joined tokens scope greater ts) binary.Greater _ (compared_good binary.Greater greater refl) (
-          compared_if (is_joined tokens scope greater_or_equal ts) binary.GreaterOrEqual None (compared_good binary.GreaterOrEqual greater_or_equal refl) tt)))
+          compared_if (is_joined tokens scope signs.Less ts) binary.Less _ (compared_good binary.Less signs.Less refl) (
+          compared_if (is_joined tokens scope signs.LessOrEqual ts) binary.LessOrEqual _ (compared_good binary.LessOrEqual signs.LessOrEqual refl) (
+          compared_if (is_joined tokens scope signs.Greater ts) binary.Greater _ (compared_good binary.Greater signs.Greater refl) (
+          compared_if (is_joined tokens scope signs.GreaterOrEqual ts) binary.GreaterOrEqual None (compared_good binary.GreaterOrEqual signs.GreaterOrEqual refl) tt)))
       comparison_good node.Equality =
-          compared_if (is_joined tokens scope equal ts) binary.Equal _ (compared_good binary.Equal equal refl) (
-          compared_if (is_joined tokens scope not_equal ts) binary.NotEqual None (compared_good binary.NotEqual not_equal refl) tt)
+          compared_if (is_joined tokens scope signs.Equal ts) binary.Equal _ (compared_good binary.Equal signs.Equal refl) (
+          compared_if (is_joined tokens scope signs.NotEqual ts) binary.NotEqual None (compared_good binary.NotEqual signs.NotEqual refl) tt)
       comparison_good _ = tt
 
     mutual

@@ -9,14 +9,16 @@ use Rattle.mql_tree.specs.declared.token.Tree.{Tree, out-Tree}
 use Rattle.mql_tree.specs.declared.token.Tree.TheOpen.{Tree-F}
 use Rattle.mql_level.specs.declared.form.NodeKind.{NodeKind}
 use Rattle.mql_level.specs.declared.form.NodeKind.TheVariants as node
-use Rattle.mql_level.specs.declared.part.Part.TheVariants.{Sign, Reserved, Node}
-use Rattle.mql_level.specs.declared.word.Word.TheVariants as words
-use Rattle.mql_level.specs.Forms.{node_kind, open_round, close_round}
+use Rattle.mql_level.specs.declared.part.Part.TheVariants.{Sign, Reserved, Known, Node}
+use Rattle.mql_spelling.specs.declared.reserved.ReservedWord.TheVariants as words
+use Rattle.mql_spelling.specs.declared.sign.Sign.TheVariants as signs
+use Rattle.mql_level.specs.Forms.{node_kind}
 use Rattle.mql_level.specs.Leaves.{first, is_node}
 use Rattle.mql_level.specs.Locals.{no_locals}
 use Rattle.mql_level.specs.Parts.{stand}
 use Rattle.mql_level.specs.Statements.{Sequence, is_block, sequence_in}
 use Rattle.mql_level.specs.Read.{Read, ◌>>=◌}
+use Rattle.mql_level.specs.declared.word.KnownName.TheVariants as known
 
 -- the kinds of the locals: an int for each name
 abbrev pub ints : List (List ℕ) → List IntKind
@@ -25,7 +27,10 @@ ints (name ∷ names) = kinds.Int ∷ ints names
 
 -- the program of one function `OnTick` with this body, which declares these names
 abbrev pub program_of : Sequence → Checked
-program_of body = record { functions = record { name = codes "OnTick"; locals = ints body.1.names; body = body.0 } ∷ []; tick = Some 0 }
+program_of body = record {
+  functions = record { name = codes "OnTick"; locals = ints body.1.names; body = body.0 } ∷ [];
+  tick = Some 0;
+}
 
 -- the parts are nodes
 abbrev pub all_nodes : List Tree → Bool
@@ -35,7 +40,8 @@ all_nodes (t ∷ ts) = is_node t && all_nodes ts
 module _ (tokens : List (Token × Span)) where
   -- the statements of the function's block
   abbrev pub body_at : NodeKind → List Tree → Option ℕ → Read Sequence
-  body_at node.Block parts place = if is_block tokens no_locals parts then sequence_in tokens true no_locals parts else Err place
+  body_at node.Block parts place =
+      if is_block tokens no_locals parts then sequence_in tokens true no_locals parts else Err place
   body_at _ parts place = Err place
 
   abbrev pub body_of : Option ℕ → Tree-F Tree → Read Sequence
@@ -52,7 +58,9 @@ module _ (tokens : List (Token × Span)) where
 
   -- `void OnTick ( )` and a block
   unfoldable pub is_on_tick : List Tree → Bool
-  is_on_tick parts = stand tokens no_locals (Reserved words.Void ∷ Reserved words.OnTick ∷ Sign open_round ∷ Sign close_round ∷ Node ∷ []) parts
+  is_on_tick parts =
+      stand tokens no_locals (Reserved words.Void ∷ Known known.OnTick
+          ∷ Sign signs.ParenthesisOpen ∷ Sign signs.ParenthesisClose ∷ Node ∷ []) parts
 
   abbrev pub function_at : NodeKind → List Tree → Option ℕ → Read Sequence
   function_at node.Item parts place = if is_on_tick parts then body (slice_get parts 4) else Err place

@@ -32,7 +32,10 @@ no_locals = record { names = []; visible = [] }
 
 -- behind the declaration of a name: a local's number is how many were declared before it
 abbrev pub declared : Scope → List ℕ → Scope
-declared scope name = record { names = scope.names ++ name ∷ []; visible = scope.visible ++ length scope.names ∷ [] }
+declared scope name = record {
+  names = scope.names ++ name ∷ [];
+  visible = scope.visible ++ length scope.names ∷ [];
+}
 
 -- behind a block: the locals are visible that were visible where it began
 abbrev pub behind_block : Scope → Scope → Scope

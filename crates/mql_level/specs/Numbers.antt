@@ -3,7 +3,7 @@ use Rattle.std.specs.Prelude.{ℕ, pos, Bool, true, false, if◌then◌else◌, 
 use Rattle.fx8.specs.declared.int_kind.IntKind.TheVariants as kinds
 use Rattle.fx8.specs.declared.int_operator.IntOperator.{IntOperator}
 use Rattle.fx8.specs.declared.int_operator.IntOperator.TheVariants as operators
-use Rattle.mql_mean.specs.declared.tree.UnaryOperator.TheVariants as signs
+use Rattle.mql_mean.specs.declared.tree.UnaryOperator.TheVariants as unary
 use Rattle.mql_mean.specs.declared.tree.Operator.{Operator}
 use Rattle.mql_mean.specs.declared.tree.Operator.TheVariants.{Unary, Binary}
 use Rattle.mql_mean.specs.declared.tree.Expression.{Expression}
@@ -17,9 +17,11 @@ use Rattle.mql_level.specs.declared.form.NodeKind.TheVariants as node
 use Rattle.mql_level.specs.declared.number.NumberForm.{NumberForm}
 use Rattle.mql_level.specs.declared.number.NumberForm.TheVariants.{Bracketed, Negated, Joined}
 use Rattle.mql_level.specs.declared.part.Part.TheVariants.{Sign, Number}
-use Rattle.mql_level.specs.declared.word.Word.TheVariants as words
+use Rattle.mql_spelling.specs.declared.reserved.ReservedWord.TheVariants as words
+use Rattle.mql_spelling.specs.declared.sign.Sign as mark
+use Rattle.mql_spelling.specs.declared.sign.Sign.TheVariants as signs
 use Rattle.mql_level.specs.declared.scope.Scope.{Scope}
-use Rattle.mql_level.specs.Forms.{node_kind, open_round, close_round, plus, minus, times, divide, remainder, less, less_or_equal, greater, greater_or_equal, equal, not_equal}
+use Rattle.mql_level.specs.Forms.{node_kind}
 use Rattle.mql_level.specs.Leaves.{first, first_among, list_of, leaf, token_at}
 use Rattle.mql_level.specs.Parts.{stands, stand, is_word, literal_of, local_of}
 use Rattle.mql_level.specs.Read.{Read, ◌>>=◌, there}
@@ -56,7 +58,7 @@ sole place es = Err place
 abbrev pub formed : Option NumberForm → Option ℕ → Read (List Expression) → Read Expression
 formed None place operands = Err place
 formed (Some Bracketed) place operands = operands >>= sole place
-formed (Some Negated) place operands = applied (Unary signs.Minus) operands
+formed (Some Negated) place operands = applied (Unary unary.Minus) operands
 formed (Some (Joined operator)) place operands = applied (Binary operator) operands
 
 -- what a condition is that compares
@@ -76,40 +78,43 @@ truth_of false false place = Err place
 
 module _ (tokens : List (Token × Span)) where
   -- two numbers that a sign joins
-  abbrev pub is_joined : Scope → ℕ → List Tree → Bool
+  abbrev pub is_joined : Scope → mark.Sign → List Tree → Bool
   is_joined scope sign parts = stand tokens scope (Number ∷ Sign sign ∷ Number ∷ []) parts
 
   -- the operators of products, of sums and of comparisons
   unfoldable pub of_product : Scope → List Tree → Option IntOperator
   of_product scope parts =
-      if is_joined scope times parts then Some operators.Multiply
-      else if is_joined scope divide parts then Some operators.Divide
-      else if is_joined scope remainder parts then Some operators.Remainder else None
+      if is_joined scope signs.Star parts then Some operators.Multiply
+      else if is_joined scope signs.Slash parts then Some operators.Divide
+      else if is_joined scope signs.Percent parts then Some operators.Remainder else None
 
   unfoldable pub of_sum : Scope → List Tree → Option IntOperator
   of_sum scope parts =
-      if is_joined scope plus parts then Some operators.Add
-      else if is_joined scope minus parts then Some operators.Subtract else None
+      if is_joined scope signs.Plus parts then Some operators.Add
+      else if is_joined scope signs.Minus parts then Some operators.Subtract else None
 
   unfoldable pub of_relation : Scope → List Tree → Option IntOperator
   of_relation scope parts =
-      if is_joined scope less parts then Some operators.Less
-      else if is_joined scope less_or_equal parts then Some operators.LessOrEqual
-      else if is_joined scope greater parts then Some operators.Greater
-      else if is_joined scope greater_or_equal parts then Some operators.GreaterOrEqual else None
+      if is_joined scope signs.Less parts then Some operators.Less
+      else if is_joined scope signs.LessOrEqual parts then Some operators.LessOrEqual
+      else if is_joined scope signs.Greater parts then Some operators.Greater
+      else if is_joined scope signs.GreaterOrEqual parts then Some operators.GreaterOrEqual else None
 
   unfoldable pub of_equality : Scope → List Tree → Option IntOperator
   of_equality scope parts =
-      if is_joined scope equal parts then Some operators.Equal
-      else if is_joined scope not_equal parts then Some operators.NotEqual else None
+      if is_joined scope signs.Equal parts then Some operators.Equal
+      else if is_joined scope signs.NotEqual parts then Some operators.NotEqual else None
 
   -- a number in brackets, and a number behind a minus
   unfoldable pub bracketed : Scope → List Tree → Option NumberForm
   bracketed scope parts =
-      if stand tokens scope (Sign open_round ∷ Number ∷ Sign close_round ∷ []) parts then Some Bracketed else None
+      if stand tokens scope (Sign signs.ParenthesisOpen ∷ Number ∷ Sign signs.ParenthesisClose ∷ []) parts
+      then Some Bracketed
+      else None
 
   unfoldable pub negated : Scope → List Tree → Option NumberForm
-  negated scope parts = if stand tokens scope (Sign minus ∷ Number ∷ []) parts then Some Negated else None
+  negated scope parts =
+      if stand tokens scope (Sign signs.Minus ∷ Number ∷ []) parts then Some Negated else None
 
   -- what number a node of a kind with these parts is, if it is one
   unfoldable pub number_form : Scope → NodeKind → List Tree → Option NumberForm
@@ -138,17 +143,21 @@ module _ (tokens : List (Token × Span)) where
 
     pub numbers : {m : _} → Scope → Row_of-Tree m → Read (List Expression)
     numbers scope end_of-Tree = Ok []
-    numbers scope (more_of-Tree t ts) = with_number (stands tokens scope Number t) (number scope t) (numbers scope ts)
+    numbers scope (more_of-Tree t ts) =
+        with_number (stands tokens scope Number t) (number scope t) (numbers scope ts)
 
   -- the numbers among trees, from left to right
   unfoldable pub numbers_in : Scope → List Tree → Read (List Expression)
   numbers_in scope [] = Ok []
-  numbers_in scope (t ∷ ts) = with_number (stands tokens scope Number t) (number scope t) (numbers_in scope ts)
+  numbers_in scope (t ∷ ts) =
+      with_number (stands tokens scope Number t) (number scope t) (numbers_in scope ts)
 
   -- a condition: `true`, `false` or a comparison of two numbers
   abbrev pub condition_at : Scope → Tree → Tree-F Tree → Read Expression
-  condition_at scope t (Tree-F.Leaf k) = truth_of (is_word words.True (leaf tokens t)) (is_word words.False (leaf tokens t)) (first t)
-  condition_at scope t (Tree-F.Node form parts) = compared (comparison_form scope (node_kind form) parts) (first t) (numbers_in scope parts)
+  condition_at scope t (Tree-F.Leaf k) =
+      truth_of (is_word words.True (leaf tokens t)) (is_word words.False (leaf tokens t)) (first t)
+  condition_at scope t (Tree-F.Node form parts) =
+      compared (comparison_form scope (node_kind form) parts) (first t) (numbers_in scope parts)
 
   unfoldable pub condition : Scope → Tree → Read Expression
   condition scope t = condition_at scope t (out-Tree t)

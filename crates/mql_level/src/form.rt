@@ -1,9 +1,9 @@
-//! The forms of nodes, by their numbers.
+//! The forms of nodes, as far as this level tells them apart.
 ghost use Rattle.std.specs.Prelude.{◌≡◌};
 ghost use Rattle.mql_level.specs.Forms.{node_kind};
 ghost use Rattle.mql_level.specs.Leaves.{states};
 
-use mql_grammar::Form;
+use mql_forms::Form;
 
 /// What the node of a form is, as far as this level tells them apart.
 #[derive(Clone, Copy, Debug, PartialEq, Eq)]
@@ -30,45 +30,35 @@ pub enum NodeKind {
     Other,
 }
 
-/// The kind of a node by the number of its form.
+/// The kind of a node by its form.
 #[tactic(auto, unfolding(crate::specs::Forms::node_kind))]
-pub fn node_kind(form: u8) -> NodeKind
+pub fn node_kind(form: Form) -> NodeKind
     ensures { result ≡ node_kind form }
 {
-    if form == Form::Program.number() {
-        NodeKind::Program
-    } else if form == Form::Item.number() {
-        NodeKind::Item
-    } else if form == Form::Block.number() {
-        NodeKind::Block
-    } else if form == Form::Empty.number() {
-        NodeKind::Empty
-    } else if form == Form::Simple.number() {
-        NodeKind::Simple
-    } else if form == Form::If.number() {
-        NodeKind::If
-    } else if form == Form::While.number() {
-        NodeKind::While
-    } else if Form::Do.number() <= form && form <= Form::Delete.number() {
-        NodeKind::OtherStatement
-    } else if form == Form::Bracket.number() {
-        NodeKind::Bracket
-    } else if form == Form::Call.number() {
-        NodeKind::Call
-    } else if form == Form::Unary.number() {
-        NodeKind::Unary
-    } else if form == Form::Product.number() {
-        NodeKind::Product
-    } else if form == Form::Sum.number() {
-        NodeKind::Sum
-    } else if form == Form::Relation.number() {
-        NodeKind::Relation
-    } else if form == Form::Equality.number() {
-        NodeKind::Equality
-    } else if form == Form::Assignment.number() {
-        NodeKind::Assignment
-    } else {
-        NodeKind::Other
+    match form {
+        Form::Program => NodeKind::Program,
+        Form::Item => NodeKind::Item,
+        Form::Block => NodeKind::Block,
+        Form::Empty => NodeKind::Empty,
+        Form::Simple => NodeKind::Simple,
+        Form::If => NodeKind::If,
+        Form::While => NodeKind::While,
+        Form::Do => NodeKind::OtherStatement,
+        Form::For => NodeKind::OtherStatement,
+        Form::Switch => NodeKind::OtherStatement,
+        Form::Break => NodeKind::OtherStatement,
+        Form::Continue => NodeKind::OtherStatement,
+        Form::Return => NodeKind::OtherStatement,
+        Form::Delete => NodeKind::OtherStatement,
+        Form::Bracket => NodeKind::Bracket,
+        Form::Call => NodeKind::Call,
+        Form::Unary => NodeKind::Unary,
+        Form::Product => NodeKind::Product,
+        Form::Sum => NodeKind::Sum,
+        Form::Relation => NodeKind::Relation,
+        Form::Equality => NodeKind::Equality,
+        Form::Assignment => NodeKind::Assignment,
+        _ => NodeKind::Other,
     }
 }
 

@@ -8,11 +8,11 @@ use crate::form::{NodeKind, node_kind};
 use crate::leaf::{first, is_node, parted};
 use crate::part::{Part, stand};
 use crate::scope::{Scope, no_locals};
-use crate::sign;
 use crate::statement::{is_block, sequence};
-use crate::word::Word;
+use crate::word::KnownName;
 use fx8::{IntKind, ItemList, OutOfMemory, Text};
 use mql_mean::{Checked, Function, Statement};
+use mql_spelling::{ReservedWord, Sign};
 use mql_tree::{Span, Token, Tokens, Tree};
 use std::alloc::Global;
 use thiserror::Error;
@@ -139,10 +139,10 @@ fn is_on_tick(alloc: Global, tokens: &[(Token, Span)], parts: &[Tree]) -> bool
 {
     let scope = no_locals(alloc);
     let form = [
-        Part::Reserved(Word::Void),
-        Part::Reserved(Word::OnTick),
-        Part::Sign(sign::OPEN_ROUND),
-        Part::Sign(sign::CLOSE_ROUND),
+        Part::Reserved(ReservedWord::Void),
+        Part::Known(KnownName::OnTick),
+        Part::Sign(Sign::ParenthesisOpen),
+        Part::Sign(Sign::ParenthesisClose),
         Part::Node,
     ];
     stand(tokens, &scope, &form, parts)
@@ -217,8 +217,8 @@ fn read_items(
     }
 }
 
-/// The program that a tree of the first level is, or the place of the first token of the first node (a node before its
-/// parts) that is not of the level's form.
+/// The program that a tree of the first level is, or the place of the first token of the first node (a node
+/// before its parts) that is not of the level's form.
 #[tactic(auto, unfolding(crate::specs::Level::program))]
 pub fn read_level(alloc: Global, tokens: &Tokens, tree: &Tree) -> Result<Checked, LevelFault>
     ensures exact { Answers result (program tokens.now tree.now) }

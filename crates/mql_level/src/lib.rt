@@ -7,7 +7,6 @@ mod level;
 mod number;
 mod part;
 mod scope;
-mod sign;
 mod statement;
 #[cfg(test)]
 mod tests;

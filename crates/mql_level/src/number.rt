@@ -8,10 +8,10 @@ use crate::form::{NodeKind, node_kind};
 use crate::leaf::first;
 use crate::part::{Part, is_word, literal_of, local_of, stand, stands};
 use crate::scope::Scope;
-use crate::word::Word;
-use crate::{LevelFault, sign};
+use crate::LevelFault;
 use fx8::{IntKind, IntOperator, ItemList};
 use mql_mean::{Expression, Operator, UnaryOperator};
+use mql_spelling::{ReservedWord, Sign};
 use mql_tree::{Span, Token, Tree};
 use std::alloc::Global;
 
@@ -27,7 +27,7 @@ pub enum NumberForm {
 }
 
 /// Whether a sign joins two numbers.
-fn is_joined(tokens: &[(Token, Span)], scope: &Scope, sign: u8, parts: &[Tree]) -> bool
+fn is_joined(tokens: &[(Token, Span)], scope: &Scope, sign: Sign, parts: &[Tree]) -> bool
     ensures { result ≡ is_joined tokens.now scope.now sign parts.now }
 {
     stand(
@@ -42,11 +42,11 @@ fn is_joined(tokens: &[(Token, Span)], scope: &Scope, sign: u8, parts: &[Tree]) 
 fn of_product(tokens: &[(Token, Span)], scope: &Scope, parts: &[Tree]) -> Option<IntOperator>
     ensures { result ≡ of_product tokens.now scope.now parts.now }
 {
-    if is_joined(tokens, scope, sign::TIMES, parts) {
+    if is_joined(tokens, scope, Sign::Star, parts) {
         Some(IntOperator::Multiply)
-    } else if is_joined(tokens, scope, sign::DIVIDE, parts) {
+    } else if is_joined(tokens, scope, Sign::Slash, parts) {
         Some(IntOperator::Divide)
-    } else if is_joined(tokens, scope, sign::REMAINDER, parts) {
+    } else if is_joined(tokens, scope, Sign::Percent, parts) {
         Some(IntOperator::Remainder)
     } else {
         None
@@ -57,9 +57,9 @@ fn of_product(tokens: &[(Token, Span)], scope: &Scope, parts: &[Tree]) -> Option
 fn of_sum(tokens: &[(Token, Span)], scope: &Scope, parts: &[Tree]) -> Option<IntOperator>
     ensures { result ≡ of_sum tokens.now scope.now parts.now }
 {
-    if is_joined(tokens, scope, sign::PLUS, parts) {
+    if is_joined(tokens, scope, Sign::Plus, parts) {
         Some(IntOperator::Add)
-    } else if is_joined(tokens, scope, sign::MINUS, parts) {
+    } else if is_joined(tokens, scope, Sign::Minus, parts) {
         Some(IntOperator::Subtract)
     } else {
         None
@@ -70,13 +70,13 @@ fn of_sum(tokens: &[(Token, Span)], scope: &Scope, parts: &[Tree]) -> Option<Int
 fn of_relation(tokens: &[(Token, Span)], scope: &Scope, parts: &[Tree]) -> Option<IntOperator>
     ensures { result ≡ of_relation tokens.now scope.now parts.now }
 {
-    if is_joined(tokens, scope, sign::LESS, parts) {
+    if is_joined(tokens, scope, Sign::Less, parts) {
         Some(IntOperator::Less)
-    } else if is_joined(tokens, scope, sign::LESS_OR_EQUAL, parts) {
+    } else if is_joined(tokens, scope, Sign::LessOrEqual, parts) {
         Some(IntOperator::LessOrEqual)
-    } else if is_joined(tokens, scope, sign::GREATER, parts) {
+    } else if is_joined(tokens, scope, Sign::Greater, parts) {
         Some(IntOperator::Greater)
-    } else if is_joined(tokens, scope, sign::GREATER_OR_EQUAL, parts) {
+    } else if is_joined(tokens, scope, Sign::GreaterOrEqual, parts) {
         Some(IntOperator::GreaterOrEqual)
     } else {
         None
@@ -87,9 +87,9 @@ fn of_relation(tokens: &[(Token, Span)], scope: &Scope, parts: &[Tree]) -> Optio
 fn of_equality(tokens: &[(Token, Span)], scope: &Scope, parts: &[Tree]) -> Option<IntOperator>
     ensures { result ≡ of_equality tokens.now scope.now parts.now }
 {
-    if is_joined(tokens, scope, sign::EQUAL, parts) {
+    if is_joined(tokens, scope, Sign::Equal, parts) {
         Some(IntOperator::Equal)
-    } else if is_joined(tokens, scope, sign::NOT_EQUAL, parts) {
+    } else if is_joined(tokens, scope, Sign::NotEqual, parts) {
         Some(IntOperator::NotEqual)
     } else {
         None
@@ -101,9 +101,9 @@ fn bracketed(tokens: &[(Token, Span)], scope: &Scope, parts: &[Tree]) -> Option<
     ensures { result ≡ bracketed tokens.now scope.now parts.now }
 {
     let form = [
-        Part::Sign(sign::OPEN_ROUND),
+        Part::Sign(Sign::ParenthesisOpen),
         Part::Number,
-        Part::Sign(sign::CLOSE_ROUND),
+        Part::Sign(Sign::ParenthesisClose),
     ];
     if stand(tokens, scope, &form, parts) {
         Some(NumberForm::Bracketed)
@@ -116,7 +116,7 @@ fn bracketed(tokens: &[(Token, Span)], scope: &Scope, parts: &[Tree]) -> Option<
 fn negated(tokens: &[(Token, Span)], scope: &Scope, parts: &[Tree]) -> Option<NumberForm>
     ensures { result ≡ negated tokens.now scope.now parts.now }
 {
-    let form = [Part::Sign(sign::MINUS), Part::Number];
+    let form = [Part::Sign(Sign::Minus), Part::Number];
     if stand(tokens, scope, &form, parts) {
         Some(NumberForm::Negated)
     } else {
@@ -282,9 +282,9 @@ pub fn condition(
 {
     match tree {
         Tree::Leaf { .. } => {
-            if is_word(tokens, Word::True, tree) {
+            if is_word(tokens, ReservedWord::True, tree) {
                 Ok(truth(true))
-            } else if is_word(tokens, Word::False, tree) {
+            } else if is_word(tokens, ReservedWord::False, tree) {
                 Ok(truth(false))
             } else {
                 Err(LevelFault::Form(first(tree)))

@@ -3,12 +3,13 @@ ghost use Rattle.std.specs.Prelude.{◌≡◌, IfSome, option_map};
 ghost use Rattle.std.specs.Option.{option_copied};
 ghost use Rattle.mql_level.specs.Leaves.{leaf};
 ghost use Rattle.mql_mean.specs.Natives.{is_int};
-ghost use Rattle.mql_level.specs.Parts.{is_sign, is_word, literal_of, name_of, local_of, seen_in, may_declare, is_new, text_of, is_operand, stands, stand};
+ghost use Rattle.mql_level.specs.Parts.{has_sign, is_word, is_known, literal_of, name_in, local_of, seen_in, may_declare, is_new, text_of, is_operand, stands, stand};
 
 use crate::leaf::{is_node, is_statement, leaf, parted};
 use crate::scope::{Scope, is_declared};
-use crate::word::{Word, all_printable, is_name, is_spelled};
+use crate::word::{KnownName, all_printable, is_name};
 use fx8::{IntKind, Text};
+use mql_spelling::{ReservedWord, Sign, is_spelled};
 use mql_tree::{Span, Token, Tree};
 
 /// The greatest number that a literal may be.
@@ -17,9 +18,9 @@ const GREATEST: u64 = 2147483647;
 /// What may stand at a place.
 #[derive(Clone, Copy, Debug, PartialEq, Eq)]
 pub enum Part {
-    /// The sign of this number.
-    Sign(u8),
-    Reserved(Word),
+    Sign(Sign),
+    Reserved(ReservedWord),
+    Known(KnownName),
     /// A literal, a visible local or a node.
     Number,
     /// A number or a string.
@@ -36,23 +37,34 @@ pub enum Part {
     Statement,
 }
 
-#[tactic(auto, unfolding(crate::specs::Parts::is_sign))]
-fn is_sign(tokens: &[(Token, Span)], sign: u8, tree: &Tree) -> bool
-    ensures { result ≡ is_sign sign (leaf tokens.now tree.now) }
+#[tactic(auto, unfolding(crate::specs::Parts::has_sign))]
+fn has_sign(tokens: &[(Token, Span)], sign: Sign, tree: &Tree) -> bool
+    ensures { result ≡ has_sign sign (leaf tokens.now tree.now) }
 {
     match leaf(tokens, tree) {
-        Some(Token::Sign(number)) => *number == sign,
-        _ => false,
+        Some(token) => token.is_sign(sign),
+        None => false,
     }
 }
 
-/// Whether the tree is a word.
+/// Whether the tree is a reserved word.
 #[tactic(auto, unfolding(crate::specs::Parts::is_word))]
-pub fn is_word(tokens: &[(Token, Span)], word: Word, tree: &Tree) -> bool
+pub fn is_word(tokens: &[(Token, Span)], word: ReservedWord, tree: &Tree) -> bool
     ensures { result ≡ is_word word (leaf tokens.now tree.now) }
 {
     match leaf(tokens, tree) {
         Some(Token::Name(name)) => is_spelled(name.as_slice(), word.spelling()),
+        _ => false,
+    }
+}
+
+/// Whether the tree is a known name.
+#[tactic(auto, unfolding(crate::specs::Parts::is_known))]
+fn is_known(tokens: &[(Token, Span)], known: KnownName, tree: &Tree) -> bool
+    ensures { result ≡ is_known known (leaf tokens.now tree.now) }
+{
+    match leaf(tokens, tree) {
+        Some(Token::Name(name)) => is_spelled(name.as_slice(), known.spelling()),
         _ => false,
     }
 }
@@ -80,10 +92,10 @@ pub fn literal_of(tokens: &[(Token, Span)], tree: &Tree) -> Option<u32>
     }
 }
 
-/// A name.
-#[tactic(auto, unfolding(crate::specs::Parts::name_of))]
-pub fn name_of<'a>(tokens: &'a [(Token, Span)], tree: &Tree) -> Option<&'a [u16]>
-    ensures { option_copied result ≡ name_of (leaf tokens.now tree.now) }
+/// The name that the tree is.
+#[tactic(auto, unfolding(crate::specs::Parts::name_in))]
+pub fn name_in<'a>(tokens: &'a [(Token, Span)], tree: &Tree) -> Option<&'a [u16]>
+    ensures { option_copied result ≡ name_in (leaf tokens.now tree.now) }
 {
     match leaf(tokens, tree) {
         Some(Token::Name(name)) => Some(name.as_slice()),
@@ -96,7 +108,7 @@ pub fn name_of<'a>(tokens: &'a [(Token, Span)], tree: &Tree) -> Option<&'a [u16]
 pub fn local_of(tokens: &[(Token, Span)], scope: &Scope, tree: &Tree) -> Option<u32>
     ensures { result ≡ local_of scope.now (leaf tokens.now tree.now) }
 {
-    match name_of(tokens, tree) {
+    match name_in(tokens, tree) {
         Some(name) => scope.visible(name),
         None => None,
     }
@@ -107,7 +119,7 @@ pub fn local_of(tokens: &[(Token, Span)], scope: &Scope, tree: &Tree) -> Option<
 fn is_new(tokens: &[(Token, Span)], scope: &Scope, tree: &Tree) -> bool
     ensures { result ≡ is_new scope.now (leaf tokens.now tree.now) }
 {
-    match name_of(tokens, tree) {
+    match name_in(tokens, tree) {
         Some(name) => is_name(name) && !is_declared(scope.names.as_slice(), name),
         None => false,
     }
@@ -143,14 +155,17 @@ pub fn stands(tokens: &[(Token, Span)], scope: &Scope, part: Part, tree: &Tree) 
     ensures { result ≡ stands tokens.now scope.now part tree.now }
 {
     match part {
-        Part::Sign(sign) => is_sign(tokens, sign, tree),
+        Part::Sign(sign) => has_sign(tokens, sign, tree),
         Part::Reserved(word) => is_word(tokens, word, tree),
+        Part::Known(known) => is_known(tokens, known, tree),
         Part::Number => is_node(tree) || is_operand(tokens, scope, tree),
         Part::Argument => {
             is_node(tree) || is_operand(tokens, scope, tree) || text_of(tokens, tree).is_some()
         }
         Part::Condition => {
-            is_node(tree) || is_word(tokens, Word::True, tree) || is_word(tokens, Word::False, tree)
+            is_node(tree)
+                || is_word(tokens, ReservedWord::True, tree)
+                || is_word(tokens, ReservedWord::False, tree)
         }
         Part::NewName => is_new(tokens, scope, tree),
         Part::LocalName => local_of(tokens, scope, tree).is_some(),

@@ -7,12 +7,13 @@ ghost use Rattle.mql_level.specs.Statements.{are_inside, is_block, are_arguments
 use crate::form::{NodeKind, node_kind};
 use crate::leaf::{first, is_statement, line_of, parted};
 use crate::number::{condition, number};
-use crate::part::{Part, local_of, name_of, stand, stands, text_of};
+use crate::part::{Part, local_of, name_in, stand, stands, text_of};
 use crate::scope::{Scope, short};
-use crate::word::Word;
-use crate::{LevelFault, sign};
+use crate::word::KnownName;
+use crate::LevelFault;
 use fx8::{ItemList, Text};
 use mql_mean::{Expression, Native, Statement};
+use mql_spelling::{ReservedWord, Sign};
 use mql_tree::{Span, Token, Tree};
 use std::alloc::Global;
 
@@ -35,7 +36,7 @@ fn are_inside(tokens: &[(Token, Span)], scope: &Scope, parts: &[Tree]) -> bool
     let mut rest = parts;
     while let Some((tree, others)) = parted(rest) {
         if others.is_empty() {
-            return stands(tokens, scope, Part::Sign(sign::CLOSE_CURLY), tree);
+            return stands(tokens, scope, Part::Sign(Sign::BraceClose), tree);
         }
         if !stands(tokens, scope, Part::Statement, tree) {
             return false;
@@ -52,7 +53,7 @@ pub fn is_block(tokens: &[(Token, Span)], scope: &Scope, parts: &[Tree]) -> bool
 {
     match parted(parts) {
         Some((open, others)) => {
-            stands(tokens, scope, Part::Sign(sign::OPEN_CURLY), open)
+            stands(tokens, scope, Part::Sign(Sign::BraceOpen), open)
                 && are_inside(tokens, scope, others)
         }
         None => false,
@@ -72,9 +73,9 @@ fn are_arguments(tokens: &[(Token, Span)], scope: &Scope, parts: &[Tree]) -> boo
             return false;
         }
         if others.is_empty() {
-            return stands(tokens, scope, Part::Sign(sign::CLOSE_ROUND), mark);
+            return stands(tokens, scope, Part::Sign(Sign::ParenthesisClose), mark);
         }
-        if !stands(tokens, scope, Part::Sign(sign::COMMA), mark) {
+        if !stands(tokens, scope, Part::Sign(Sign::Comma), mark) {
             return false;
         }
         rest = others;
@@ -93,8 +94,8 @@ fn is_print(tokens: &[(Token, Span)], scope: &Scope, parts: &[Tree]) -> bool
     let Some((open, others)) = parted(behind) else {
         return false;
     };
-    stands(tokens, scope, Part::Reserved(Word::Print), name)
-        && stands(tokens, scope, Part::Sign(sign::OPEN_ROUND), open)
+    stands(tokens, scope, Part::Known(KnownName::Print), name)
+        && stands(tokens, scope, Part::Sign(Sign::ParenthesisOpen), open)
         && are_arguments(tokens, scope, others)
 }
 
@@ -103,11 +104,11 @@ fn is_declaration(tokens: &[(Token, Span)], scope: &Scope, parts: &[Tree]) -> bo
     ensures { result ≡ is_declaration tokens.now scope.now parts.now }
 {
     let form = [
-        Part::Reserved(Word::Int),
+        Part::Reserved(ReservedWord::Int),
         Part::NewName,
-        Part::Sign(sign::ASSIGN),
+        Part::Sign(Sign::Assign),
         Part::Number,
-        Part::Sign(sign::SEMICOLON),
+        Part::Sign(Sign::Semicolon),
     ];
     stand(tokens, scope, &form, parts)
 }
@@ -116,7 +117,7 @@ fn is_declaration(tokens: &[(Token, Span)], scope: &Scope, parts: &[Tree]) -> bo
 fn is_evaluation(tokens: &[(Token, Span)], scope: &Scope, parts: &[Tree]) -> bool
     ensures { result ≡ is_evaluation tokens.now scope.now parts.now }
 {
-    let form = [Part::Node, Part::Sign(sign::SEMICOLON)];
+    let form = [Part::Node, Part::Sign(Sign::Semicolon)];
     stand(tokens, scope, &form, parts)
 }
 
@@ -124,20 +125,20 @@ fn is_evaluation(tokens: &[(Token, Span)], scope: &Scope, parts: &[Tree]) -> boo
 fn is_assignment(tokens: &[(Token, Span)], scope: &Scope, parts: &[Tree]) -> bool
     ensures { result ≡ is_assignment tokens.now scope.now parts.now }
 {
-    let form = [Part::LocalName, Part::Sign(sign::ASSIGN), Part::Number];
+    let form = [Part::LocalName, Part::Sign(Sign::Assign), Part::Number];
     stand(tokens, scope, &form, parts)
 }
 
 /// Whether these are the parts of an `if` or a `while`.
 #[tactic(auto, unfolding(crate::specs::Statements::is_governed))]
-fn is_governed(tokens: &[(Token, Span)], word: Word, scope: &Scope, parts: &[Tree]) -> bool
+fn is_governed(tokens: &[(Token, Span)], word: ReservedWord, scope: &Scope, parts: &[Tree]) -> bool
     ensures { result ≡ is_governed tokens.now word scope.now parts.now }
 {
     let form = [
         Part::Reserved(word),
-        Part::Sign(sign::OPEN_ROUND),
+        Part::Sign(Sign::ParenthesisOpen),
         Part::Condition,
-        Part::Sign(sign::CLOSE_ROUND),
+        Part::Sign(Sign::ParenthesisClose),
         Part::Statement,
     ];
     stand(tokens, scope, &form, parts)
@@ -146,7 +147,7 @@ fn is_governed(tokens: &[(Token, Span)], word: Word, scope: &Scope, parts: &[Tre
 fn is_empty(tokens: &[(Token, Span)], scope: &Scope, parts: &[Tree]) -> bool
     ensures { result ≡ is_empty tokens.now scope.now parts.now }
 {
-    stand(tokens, scope, &[Part::Sign(sign::SEMICOLON)], parts)
+    stand(tokens, scope, &[Part::Sign(Sign::Semicolon)], parts)
 }
 
 #[tactic(auto, unfolding(crate::specs::Statements::simple_form))]
@@ -189,11 +190,11 @@ fn statement_form(
         NodeKind::Block => form_if(is_block(tokens, scope, parts), StatementForm::Block),
         NodeKind::Simple => simple_form(tokens, direct, scope, parts),
         NodeKind::If => form_if(
-            is_governed(tokens, Word::If, scope, parts),
+            is_governed(tokens, ReservedWord::If, scope, parts),
             StatementForm::If,
         ),
         NodeKind::While => form_if(
-            is_governed(tokens, Word::While, scope, parts),
+            is_governed(tokens, ReservedWord::While, scope, parts),
             StatementForm::While,
         ),
         _ => None,
@@ -284,7 +285,7 @@ fn name_at<'a>(tokens: &'a [(Token, Span)], trees: &[Tree], place: usize) -> Opt
     ensures { option_copied result ≡ name_at tokens.now (slice_get trees.now place) }
 {
     match trees.get(place) {
-        Some(tree) => name_of(tokens, tree),
+        Some(tree) => name_in(tokens, tree),
         None => None,
     }
 }

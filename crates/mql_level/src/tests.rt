@@ -6,36 +6,12 @@
 use crate::scope::short;
 use crate::{LevelFault, read_level};
 use fx8::{Fix8, IntKind, ItemList, Text};
+use mql_forms::Form;
 use mql_mean::{Checked, Expression, Operator, Statement};
+use mql_spelling::SIGNS;
 use mql_tree::{Span, Token, Tokens, Tree, TreeList};
 use std::alloc::Global;
 use std::test::Fail;
-
-const SIGNS: [(&str, u8); 23] = [
-    ("(", 0),
-    (")", 1),
-    ("{", 4),
-    ("}", 5),
-    (";", 6),
-    (",", 7),
-    ("!", 13),
-    ("+", 14),
-    ("-", 15),
-    ("*", 16),
-    ("/", 17),
-    ("%", 18),
-    ("<", 21),
-    ("<=", 22),
-    (">", 23),
-    (">=", 24),
-    ("==", 25),
-    ("!=", 26),
-    ("&&", 30),
-    ("=", 32),
-    ("+=", 33),
-    ("++", 43),
-    ("--", 44),
-];
 
 fn text_of(alloc: Global, word: &str) -> Result<Text, Fail> {
     let mut text = Text::new(alloc);
@@ -46,9 +22,9 @@ fn text_of(alloc: Global, word: &str) -> Result<Text, Fail> {
 }
 
 fn token_of(alloc: Global, word: &str) -> Result<Token, Fail> {
-    for (spelling, number) in SIGNS {
-        if word == spelling {
-            return Ok(Token::Sign(number));
+    for sign in SIGNS {
+        if word.as_bytes() == sign.spelling() {
+            return Ok(Token::Sign(sign));
         }
     }
     if word == "1.5" {
@@ -75,7 +51,7 @@ fn token_of(alloc: Global, word: &str) -> Result<Token, Fail> {
 /// The tokens and the tree that words spell.
 fn built(alloc: Global, words: &str) -> Result<(Tokens, Tree), Fail> {
     let mut tokens = Tokens::new(alloc);
-    let mut open: Vec<u8> = Vec::new(alloc);
+    let mut open: Vec<Form> = Vec::new(alloc);
     let mut lists: Vec<TreeList> = Vec::new(alloc);
     let mut parts = TreeList::new(alloc);
     let mut line = 1u32;
@@ -88,7 +64,11 @@ fn built(alloc: Global, words: &str) -> Result<(Tokens, Tree), Fail> {
             outer.push(Tree::Node { form, parts })?;
             parts = outer;
         } else if let Some(form) = word.strip_prefix("[") {
-            open.push(form.parse::<u8>().ok().ok_or("a form")?)?;
+            let number = form.parse::<u8>().ok().ok_or("a form")?;
+            if !(1..=43).contains(&number) {
+                return Err("a form".into());
+            }
+            open.push(Form::of_number(number))?;
             lists.push(parts)?;
             parts = TreeList::new(alloc);
         } else if let Some(place) = word.strip_prefix("@") {

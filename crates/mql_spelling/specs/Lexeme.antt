@@ -1,12 +1,13 @@
--- What a piece of text is, by its units. Each word says it of a whole piece; how the longest piece is found is not said here.
-use Rattle.std.specs.Prelude.{ℕ, ◌+◌, Bool, true, false, not, ◌==◌, ◌&&◌, ◌||◌, nat_le, List, [], ◌∷◌, Option, Some, None, option_map, if◌then◌else◌}
+-- What a piece of text is, by its units. Each word says it of a whole piece; how the longest piece is found
+-- is not said here.
+use Rattle.std.specs.Prelude.{ℕ, Bool, true, false, not, ◌==◌, ◌&&◌, ◌||◌, nat_le, List, [], ◌∷◌, Option, Some, None, option_map, if◌then◌else◌}
 use Rattle.mql_spelling.specs.declared.lexeme.Quote.{Quote}
 use Rattle.mql_spelling.specs.declared.lexeme.Quote.TheVariants.{Str, Char, Date, Color, File, Library}
 use Rattle.mql_spelling.specs.declared.lexeme.Lexeme.{Lexeme}
 use Rattle.mql_spelling.specs.declared.lexeme.Lexeme.TheVariants.{Blank, OpenComment, Name, Decimal, Hexadecimal, Double, Quoted, OpenString, Sign, LineEnd}
 use Rattle.mql_spelling.specs.declared.lexeme.Mode.{Mode}
 use Rattle.mql_spelling.specs.declared.lexeme.Mode.TheVariants.{Plain, Hash, Include, Directive}
-use Rattle.mql_spelling.specs.declared.lexeme.TheConstants.{SIGNS}
+use Rattle.mql_spelling.specs.Signs.{spelled_sign}
 
 -- a digit (MQL5 Reference, Integer Types)
 abbrev pub is_digit : ℕ → Bool
@@ -51,30 +52,12 @@ abbrev pub some_only : (ℕ → Bool) → Lexeme → List ℕ → Option Lexeme
 some_only sort what [] = None
 some_only sort what (u ∷ us) = if sort u then only sort what us else None
 
--- the sign that a piece is (own)
-abbrev pub key_of : List ℕ → Option (ℕ × ℕ × ℕ × ℕ)
-key_of (a ∷ []) = Some (1, a, 0, 0)
-key_of (a ∷ b ∷ []) = Some (2, a, b, 0)
-key_of (a ∷ b ∷ c ∷ []) = Some (3, a, b, c)
-key_of us = None
-
--- two keys are one
-unfoldable pub same_key : ℕ × ℕ × ℕ × ℕ → ℕ × ℕ × ℕ × ℕ → Bool
-same_key k e = (e.0 == k.0) && (e.1 == k.1) && (e.2 == k.2) && (e.3 == k.3)
-
--- the place of a key, where the first key stands at place k
-abbrev pub number_from : ℕ → ℕ × ℕ × ℕ × ℕ → List (ℕ × ℕ × ℕ × ℕ) → Option ℕ
-number_from k key [] = None
-number_from k key (e ∷ es) = if same_key key e then Some k else number_from (k + 1) key es
-
-unfoldable pub sign_at : Option (ℕ × ℕ × ℕ × ℕ) → Option Lexeme
-sign_at None = None
-sign_at (Some key) = option_map Sign (number_from 0 key SIGNS)
-
+-- the sign that a piece is (MQL5 Reference, Operations and Expressions)
 abbrev pub sign_of : List ℕ → Option Lexeme
-sign_of us = sign_at (key_of us)
+sign_of us = option_map Sign (spelled_sign us)
 
--- the unit that closes a text between quotes (MQL5 Reference, Character Constants, String Constants; own for files)
+-- the unit that closes a text between quotes (MQL5 Reference, Character Constants, String Constants; own for
+-- files)
 abbrev pub close_of : Quote → ℕ
 close_of Str = 34
 close_of Char = 39
@@ -101,8 +84,8 @@ unclosed Color = None
 unclosed File = Some OpenString
 unclosed Library = Some OpenString
 
--- Behind the opening quote: no line ends in it, a `\` takes the next unit with it, and the closing quote is its last
--- unit. Where skip is true, a `\` stands directly before (MQL5 Reference, String Constants).
+-- Behind the opening quote: no line ends in it, a `\` takes the next unit with it, and the closing quote is
+-- its last unit. Where skip is true, a `\` stands directly before (MQL5 Reference, String Constants).
 unfoldable pub inside : Quote → Bool → List ℕ → Option Lexeme
 inside quote skip [] = unclosed quote
 inside quote skip (u ∷ us) =
@@ -119,14 +102,17 @@ marked quote (u ∷ us) = if u == 39 then inside quote false us else only is_wor
 -- behind the mark of an exponent: a sign, or none, and digits (MQL5 Reference, Real Types)
 abbrev pub exponent : List ℕ → Option Lexeme
 exponent [] = None
-exponent (u ∷ us) = if (u == 43) || (u == 45) then some_only is_digit Double us else some_only is_digit Double (u ∷ us)
+exponent (u ∷ us) =
+    if (u == 43) || (u == 45) then some_only is_digit Double us
+    else some_only is_digit Double (u ∷ us)
 
 -- behind the point of a double: digits, or none, and an exponent, or none (MQL5 Reference, Real Types)
 unfoldable pub fraction : List ℕ → Option Lexeme
 fraction [] = Some Double
 fraction (u ∷ us) = if is_digit u then fraction us else if is_exponent_mark u then exponent us else None
 
--- behind the first digit: more digits, and a point or an exponent where it is a double (MQL5 Reference, Integer Types, Real Types)
+-- behind the first digit: more digits, and a point or an exponent where it is a double (MQL5 Reference,
+-- Integer Types, Real Types)
 unfoldable pub whole : List ℕ → Option Lexeme
 whole [] = Some Decimal
 whole (u ∷ us) =
@@ -145,7 +131,8 @@ abbrev pub point : List ℕ → Option Lexeme
 point [] = sign_of (46 ∷ [])
 point (u ∷ us) = if is_digit u then fraction us else sign_of (46 ∷ u ∷ us)
 
--- Behind `/*`: the first `*/` is its end. Where star is true, a `*` stands directly before (MQL5 Reference, Comments).
+-- Behind `/*`: the first `*/` is its end. Where star is true, a `*` stands directly before (MQL5 Reference,
+-- Comments).
 unfoldable pub block : Bool → List ℕ → Option Lexeme
 block star [] = Some OpenComment
 block star (u ∷ us) = if star && (u == 47) then ends Blank us else block (u == 42) us
@@ -182,14 +169,16 @@ backslash Hash us = continued us
 backslash Include us = continued us
 backslash Directive us = continued us
 
--- a quotation mark begins a string, and directly behind `#include` the name of a file (MQL5 Reference, Including Files)
+-- a quotation mark begins a string, and directly behind `#include` the name of a file (MQL5 Reference,
+-- Including Files)
 abbrev pub quotation : Mode → Quote
 quotation Plain = Str
 quotation Hash = Str
 quotation Include = File
 quotation Directive = Str
 
--- `<` begins a sign, and directly behind `#include` the name of a file of the library (MQL5 Reference, Including Files)
+-- `<` begins a sign, and directly behind `#include` the name of a file of the library (MQL5 Reference,
+-- Including Files)
 abbrev pub angle : Mode → List ℕ → Option Lexeme
 angle Plain us = sign_of (60 ∷ us)
 angle Hash us = sign_of (60 ∷ us)

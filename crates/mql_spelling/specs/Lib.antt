@@ -3,4 +3,7 @@ pub mod Longest
 pub mod Marked
 pub mod Onward
 pub mod Real
+pub mod ReservedWords
+pub mod Signs
+pub mod Spelled
 pub mod Value

@@ -2,7 +2,8 @@
 use Rattle.std.specs.Prelude.{◌≡◌, ℕ, ◌+◌, ◌<◌, ◌≤◌, List, [], ◌∷◌, length, take, Option, Some, None}
 use Rattle.mql_spelling.specs.declared.lexeme.Lexeme.{Lexeme}
 
--- The beginning of so many units is a piece of that sort, and no longer beginning is a piece. None: no beginning is one.
+-- The beginning of so many units is a piece of that sort, and no longer beginning is a piece. None: no
+-- beginning is one.
 abbrev pub Longest : (List ℕ → Option Lexeme) → List ℕ → Option (ℕ × Lexeme) → Type 0
 Longest what us None = (m : ℕ) → m ≤ length us → what (take m us) ≡ None
 Longest what us (Some found) = (found.0 ≤ length us) × (what (take found.0 us) ≡ Some found.1)

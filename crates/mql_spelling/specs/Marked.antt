@@ -67,7 +67,9 @@ second_at (u ∷ us) = if u == 58 then pair_end us else None
 -- the seconds of a day at a time of day
 abbrev pub clock : ℕ → ℕ → ℕ → Option ℕ
 clock hour minute second =
-    if nat_lt hour 24 && (nat_lt minute 60 && nat_lt second 60) then Some (3600 * hour + 60 * minute + second) else None
+    if nat_lt hour 24 && (nat_lt minute 60 && nat_lt second 60)
+    then Some (3600 * hour + 60 * minute + second)
+    else None
 
 unfoldable pub clock_at : List ℕ → Option ℕ
 clock_at us = do
@@ -110,11 +112,16 @@ leap_days y = ((y - 1) / 4 + (y - 1) / 400) - ((y - 1) / 100 + 477)
 
 -- a day of the years 1970 to 2999 (MQL5 Reference, Datetime Type; own for the last year)
 unfoldable pub is_day : Day → Bool
-is_day d = (nat_le 1970 d.year && nat_lt d.year 3000) && ((nat_le 1 d.month && nat_le d.month 12) && (nat_le 1 d.day && nat_le d.day (month_days (is_leap d.year) d.month)))
+is_day d =
+    (nat_le 1970 d.year && nat_lt d.year 3000)
+    && ((nat_le 1 d.month && nat_le d.month 12)
+    && (nat_le 1 d.day && nat_le d.day (month_days (is_leap d.year) d.month)))
 
 -- how many days a day is behind the first one of 1970
 abbrev pub day_number : Day → ℕ
-day_number d = 365 * (d.year - 1970) + leap_days d.year + days_before d.month + leap_day (is_leap d.year) d.month + (d.day - 1)
+day_number d =
+    365 * (d.year - 1970) + leap_days d.year + days_before d.month + leap_day (is_leap d.year) d.month
+    + (d.day - 1)
 
 -- the seconds from the beginning of 1970 to that time of that day (MQL5 Reference, Datetime Type)
 unfoldable pub moment : Day → Option ℕ → Option ℕ

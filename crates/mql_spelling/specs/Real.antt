@@ -34,8 +34,8 @@ abbrev pub exponent_digits : List ℕ → List ℕ
 exponent_digits [] = []
 exponent_digits (u ∷ us) = if u == 45 then us else if u == 43 then us else u ∷ us
 
--- How many of a number's digits stand before its ninth decimal, where so many stand before its point and the exponent is
--- this. None: the ninth decimal and more stand before its first digit.
+-- How many of a number's digits stand before its ninth decimal, where so many stand before its point and the
+-- exponent is this. None: the ninth decimal and more stand before its first digit.
 abbrev pub places_kept : ℕ → Bool → ℕ → Option ℕ
 places_kept before true y = if nat_le y (before + 8) then Some (before + 8 - y) else None
 places_kept before false y = Some (before + 8 + y)
@@ -44,8 +44,8 @@ places_kept before false y = Some (before + 8 + y)
 abbrev pub half : List ℕ → ℕ → ℕ
 half digits k = if nat_le 53 (slice_index digits k) then 1 else 0
 
--- The digits before the ninth decimal are the count of units of 10^-8, and the ninth decimal rounds it: from 5 on up,
--- which is half away from zero, since no literal has a sign (own).
+-- The digits before the ninth decimal are the count of units of 10^-8, and the ninth decimal rounds it: from
+-- 5 on up, which is half away from zero, since no literal has a sign (own).
 unfoldable pub kept : List ℕ → Option ℕ → ℕ
 kept digits None = 0
 kept digits (Some k) = value_from 10 0 (take k digits) * 10 ^ (k - length digits) + half digits k
@@ -64,4 +64,7 @@ exponent_part piece = drop 1 (fraction_rest (digits_rest piece))
 
 -- the units of 10^-8 of a double literal, where it is a double (MQL5 Reference, Real Types)
 unfoldable pub real_value : List ℕ → Option ℤ
-real_value piece = double_of (kept (digits_of piece) (places_kept (digits_len piece) (is_negative (exponent_part piece)) (value_from 10 0 (exponent_digits (exponent_part piece)))))
+real_value piece =
+    double_of (kept (digits_of piece)
+    (places_kept (digits_len piece) (is_negative (exponent_part piece))
+    (value_from 10 0 (exponent_digits (exponent_part piece)))))

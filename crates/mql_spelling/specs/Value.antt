@@ -40,8 +40,9 @@ abbrev pub escaped : Option ℕ → Option (List ℕ) → Option (List ℕ)
 escaped None text = None
 escaped (Some u) text = with_front u text
 
--- The text that is spelled between quotes, or None where an escape is none. An escape is `\` and one unit, or `\x` and
--- one to four hexadecimal digits, as many as there are (MQL5 Reference, Character Constants, String Constants).
+-- The text that is spelled between quotes, or None where an escape is none. An escape is `\` and one unit, or
+-- `\x` and one to four hexadecimal digits, as many as there are (MQL5 Reference, Character Constants, String
+-- Constants).
 unfoldable pub text_of : Escape → List ℕ → Option (List ℕ)
 text_of escapes.Plain [] = Some []
 text_of escapes.Started [] = None
@@ -51,7 +52,9 @@ text_of (escapes.Two v) [] = Some (v ∷ [])
 text_of (escapes.Three v) [] = Some (v ∷ [])
 text_of (escapes.Four v) [] = Some (v ∷ [])
 text_of escapes.Plain (u ∷ us) = plainly u (text_of escapes.Started us) (text_of escapes.Plain us)
-text_of escapes.Started (u ∷ us) = if u == 120 then text_of escapes.Hex us else escaped (escape_unit u) (text_of escapes.Plain us)
+text_of escapes.Started (u ∷ us) =
+    if u == 120 then text_of escapes.Hex us
+    else escaped (escape_unit u) (text_of escapes.Plain us)
 text_of escapes.Hex (u ∷ us) = if is_hex_digit u then text_of (escapes.One (digit_value u)) us else None
 text_of (escapes.One v) (u ∷ us) = if is_hex_digit u then text_of (escapes.Two (16 * v + digit_value u)) us
     else with_front v (plainly u (text_of escapes.Started us) (text_of escapes.Plain us))
@@ -59,9 +62,11 @@ text_of (escapes.Two v) (u ∷ us) = if is_hex_digit u then text_of (escapes.Thr
     else with_front v (plainly u (text_of escapes.Started us) (text_of escapes.Plain us))
 text_of (escapes.Three v) (u ∷ us) = if is_hex_digit u then text_of (escapes.Four (16 * v + digit_value u)) us
     else with_front v (plainly u (text_of escapes.Started us) (text_of escapes.Plain us))
-text_of (escapes.Four v) (u ∷ us) = with_front v (plainly u (text_of escapes.Started us) (text_of escapes.Plain us))
+text_of (escapes.Four v) (u ∷ us) =
+    with_front v (plainly u (text_of escapes.Started us) (text_of escapes.Plain us))
 
--- the text that is spelled by these units between quotes (MQL5 Reference, Character Constants, String Constants)
+-- the text that is spelled by these units between quotes (MQL5 Reference, Character Constants, String
+-- Constants)
 abbrev pub spelled : List ℕ → Option (List ℕ)
 spelled us = text_of escapes.Plain us
 

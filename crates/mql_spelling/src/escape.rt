@@ -4,7 +4,7 @@ ghost use Rattle.mql_spelling.specs.Lexeme.{is_hex_digit};
 ghost use Rattle.mql_spelling.specs.Value.{digit_value, escape_unit, with_front, plainly, text_of, adding, IsInRange, put_behind, spelled};
 ghost use Rattle.mql_spelling.specs.declared.escape.Escape.TheVariants as escapes;
 
-use crate::scan::is_hex_digit;
+use crate::units::is_hex_digit;
 use crate::value::digit_value;
 use fx8::{OutOfMemory, Text};
 use std::alloc::Global;
@@ -102,7 +102,9 @@ fn started_step(unit: u16) -> (Escape, Added)
 
 /// Behind an escape of hexadecimal digits comes a unit that is none.
 fn behind_value(value: u16, unit: u16) -> (Escape, Added)
-    ensures step { (rest : List ℕ) → with_front value (plainly unit (text_of escapes.Started rest) (text_of escapes.Plain rest)) ≡ adding result.1 (text_of result.0 rest) }
+    ensures step { (rest : List ℕ)
+        → with_front value (plainly unit (text_of escapes.Started rest) (text_of escapes.Plain rest))
+        ≡ adding result.1 (text_of result.0 rest) }
     ensures range { IsInRange result.0 }
 {
     if unit == 92 {
@@ -160,7 +162,8 @@ fn at_end(at: Escape) -> Added
 
 /// Adds units to a text; `false` where there is no text.
 fn add(text: &mut Text, added: Added) -> Result<bool, OutOfMemory>
-    ensures good { IfOk result (λ good. (rest : List ℕ) → good ≡ true → put_behind text.old (adding added (Some rest)) ≡ put_behind text.new (Some rest)) }
+    ensures good { IfOk result (λ good. (rest : List ℕ) → good ≡ true
+        → put_behind text.old (adding added (Some rest)) ≡ put_behind text.new (Some rest)) }
     ensures bad { IfOk result (λ good. (rest : Option (List ℕ)) → good ≡ false → adding added rest ≡ None) }
 {
     match added {

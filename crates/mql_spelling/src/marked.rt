@@ -3,7 +3,7 @@ ghost use Rattle.std.specs.Prelude.{◌≡◌, ℕ, ◌+◌, ◌*◌, ◌<◌, �
 ghost use Rattle.mql_spelling.specs.Marked.{pair_end, behind_unit, at_the_end, channel, color_value, digit_pair, day_at, second_at, clock, clock_at, time_at, is_leap, month_days, days_before, leap_day, leap_days, is_day, day_number, moment, date_value};
 
 use crate::real::{digits_front, digits_len, digits_rest};
-use crate::scan::is_digit;
+use crate::units::is_digit;
 use crate::value::number;
 
 /// What follows this unit.

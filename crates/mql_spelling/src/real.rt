@@ -3,7 +3,7 @@ ghost use Rattle.std.specs.Prelude.{◌≡◌, ℕ, ◌+◌, ◌-◌, ◌*◌, �
 ghost use Rattle.mql_spelling.specs.Value.{value_from};
 ghost use Rattle.mql_spelling.specs.Real.{digits_len, digits_front, digits_rest, fraction_of, fraction_rest, is_negative, exponent_digits, places_kept, half, kept, double_of, digits_of, exponent_part, real_value};
 
-use crate::scan::is_digit;
+use crate::units::is_digit;
 use crate::value::number;
 use fx8::{Fix8, OutOfMemory, Text};
 use std::alloc::Global;
@@ -102,7 +102,8 @@ fn exponent_digits(exponent: &[u16]) -> &[u16]
 fn places_kept(before: u64, negative: bool, exponent: Option<u64>, most: u64) -> Option<u64>
     requires before { before < 2 ^ 60 }
     requires most { most < 2 ^ 60 }
-    ensures { (y : ℕ) → MatchOption exponent (2 ^ 64 ≤ y) (λ e. e ≡ y) → result ≡ option_map (λ k. min k most) (places_kept before negative y) }
+    ensures { (y : ℕ) → MatchOption exponent (2 ^ 64 ≤ y) (λ e. e ≡ y)
+        → result ≡ option_map (λ k. min k most) (places_kept before negative y) }
 {
     if negative {
         let y = exponent?;
@@ -134,7 +135,8 @@ fn sum_of(whole: u64, more: u64) -> Option<u64>
 /// The number with so many zeros at its end, where it fits 64 bits; 20 stands for 20 and more.
 fn shifted(value: u64, up: u32) -> Option<u64>
     requires { up ≤ 20 }
-    ensures { (e : ℕ) → up ≡ min e 20 → MatchOption result (2 ^ 64 ≤ value * 10 ^ e) (λ shifted. shifted ≡ value * 10 ^ e) }
+    ensures { (e : ℕ) → up ≡ min e 20
+        → MatchOption result (2 ^ 64 ≤ value * 10 ^ e) (λ shifted. shifted ≡ value * 10 ^ e) }
 {
     if value == 0 {
         return Some(0);
@@ -162,7 +164,8 @@ fn half(digits: &[u16], place: usize) -> u64
 /// The digits before the ninth decimal, rounded by it, where the number fits 64 bits.
 fn kept(digits: &[u16], places: u64) -> Option<u64>
     requires { length digits.now < 2 ^ 40 }
-    ensures { (k : ℕ) → places ≡ min k (length digits.now + 20) → MatchOption result (2 ^ 64 ≤ kept digits.now (Some k)) (λ v. v ≡ kept digits.now (Some k)) }
+    ensures { (k : ℕ) → places ≡ min k (length digits.now + 20)
+        → MatchOption result (2 ^ 64 ≤ kept digits.now (Some k)) (λ v. v ≡ kept digits.now (Some k)) }
 {
     let len = digits.len() as u64;
     let count = places.min(len);
@@ -212,7 +215,8 @@ fn exponent_part(piece: &[u16]) -> &[u16]
 /// The digits before the ninth decimal, rounded by it; none where it stands before the first digit.
 fn value_of(digits: &[u16], places: Option<u64>) -> Option<u64>
     requires { length digits.now < 2 ^ 40 }
-    ensures { (o : Option ℕ) → places ≡ option_map (λ k. min k (length digits.now + 20)) o → MatchOption result (2 ^ 64 ≤ kept digits.now o) (λ v. v ≡ kept digits.now o) }
+    ensures { (o : Option ℕ) → places ≡ option_map (λ k. min k (length digits.now + 20)) o
+        → MatchOption result (2 ^ 64 ≤ kept digits.now o) (λ v. v ≡ kept digits.now o) }
 {
     match places {
         None => Some(0),

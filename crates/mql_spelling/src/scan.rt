@@ -3,35 +3,13 @@ ghost use Rattle.std.specs.Prelude.{◌≡◌, ℕ, ◌≤◌, List, [], ◌∷�
 ghost use Rattle.std.specs.Bool.{OnTrue};
 ghost use Rattle.mql_spelling.specs.Longest.{Longest, pick, last_from};
 ghost use Rattle.std.specs.Prelude.{true, false};
-ghost use Rattle.mql_spelling.specs.Lexeme.{is_digit, is_hex_digit, is_letter, is_word_unit, is_blank, is_in_line, is_exponent_mark, close_of, has_escapes, unclosed, inside, whole, fraction, block, only, some_only, marked, zero, point, exponent, slash, line_feed, continued, line_end, backslash, quotation, angle, same_key, number_from, sign_at, lexeme};
+ghost use Rattle.mql_spelling.specs.Lexeme.{is_digit, is_hex_digit, is_word_unit, is_blank, is_in_line, is_exponent_mark, close_of, has_escapes, unclosed, inside, whole, fraction, block, only, some_only, marked, zero, point, exponent, slash, line_feed, continued, line_end, backslash, quotation, angle, sign_of, lexeme};
 ghost use Rattle.mql_spelling.specs.Onward.{after};
 ghost use Rattle.mql_spelling.specs.declared.lexeme.Lexeme.TheVariants.{Name, Double, Hexadecimal, Blank};
 
-use crate::lexeme::{Lexeme, Mode, Quote, SIGNS, SignKey};
-
-pub fn is_digit(unit: u16) -> bool
-    ensures { result ≡ is_digit unit }
-{
-    48 <= unit && unit <= 57
-}
-
-pub fn is_hex_digit(unit: u16) -> bool
-    ensures { result ≡ is_hex_digit unit }
-{
-    is_digit(unit) || (97 <= unit && unit <= 102) || (65 <= unit && unit <= 70)
-}
-
-pub fn is_letter(unit: u16) -> bool
-    ensures { result ≡ is_letter unit }
-{
-    (97 <= unit && unit <= 122) || (65 <= unit && unit <= 90) || unit == 95
-}
-
-pub fn is_word_unit(unit: u16) -> bool
-    ensures { result ≡ is_word_unit unit }
-{
-    is_letter(unit) || is_digit(unit)
-}
+use crate::lexeme::{Lexeme, Mode, Quote};
+use crate::sign::spelled_sign;
+use crate::units::{is_digit, is_hex_digit, is_letter, is_word_unit};
 
 pub fn is_blank(unit: u16) -> bool
     ensures { result ≡ is_blank unit }
@@ -343,7 +321,7 @@ fn continued_step(unit: u16) -> State
 }
 
 /// The state one unit on.
-#[tactic(auto, unfolding(crate::specs::Lexeme::inside, crate::specs::Lexeme::sign_at))]
+#[tactic(auto, unfolding(crate::specs::Lexeme::inside))]
 pub fn step(state: State, unit: u16) -> State
     ensures { (rest : List ℕ) → after state (unit ∷ rest) ≡ after result rest }
 {
@@ -381,39 +359,14 @@ pub fn step(state: State, unit: u16) -> State
     }
 }
 
-/// The sign of a key.
-#[tactic(auto, unfolding(crate::specs::Lexeme::sign_at))]
-fn sign_at(key: SignKey) -> Option<Lexeme>
-    ensures { result ≡ sign_at (Some key) }
+/// The sign that units are.
+fn sign_of(units: &[u16]) -> Option<Lexeme>
+    ensures { result ≡ sign_of units.now }
 {
-    match number_of(&SIGNS, key) {
-        Some(number) => Some(Lexeme::Sign(number)),
+    match spelled_sign(units) {
+        Some(sign) => Some(Lexeme::Sign(sign)),
         None => None,
     }
-}
-
-#[tactic(auto, unfolding(crate::specs::Lexeme::same_key))]
-fn same_key(key: SignKey, other: SignKey) -> bool
-    ensures { result ≡ same_key key other }
-{
-    other.0 == key.0 && other.1 == key.1 && other.2 == key.2 && other.3 == key.3
-}
-
-/// The place of a key.
-fn number_of(keys: &[SignKey], key: SignKey) -> Option<u8>
-    requires { length keys.now ≤ 255 }
-    ensures { result ≡ number_from 0 key keys.now }
-{
-    let mut rest = keys;
-    let mut place = 0u8;
-    while let [other, others @ ..] = rest {
-        if same_key(key, *other) {
-            return Some(place);
-        }
-        rest = others;
-        place += 1;
-    }
-    None
 }
 
 /// What the units read are, where they are a whole piece.
@@ -430,22 +383,22 @@ pub fn lexeme_at(state: State) -> Option<Lexeme>
         State::Skipping(quote) => unclosed(quote),
         State::Zero => Some(Lexeme::Decimal),
         State::Whole => Some(Lexeme::Decimal),
-        State::Point => sign_at((1, 46, 0, 0)),
+        State::Point => sign_of(&[46]),
         State::Fraction => Some(Lexeme::Double),
         State::Mark => None,
         State::ExponentSign => None,
         State::Exponent => Some(Lexeme::Double),
         State::HexMark => None,
         State::Hex => Some(Lexeme::Hexadecimal),
-        State::Slash => sign_at((1, 47, 0, 0)),
+        State::Slash => sign_of(&[47]),
         State::LineComment => Some(Lexeme::Blank),
         State::Block => Some(Lexeme::OpenComment),
         State::Star => Some(Lexeme::OpenComment),
         State::Continued => None,
         State::ContinuedReturn => None,
-        State::One(a) => sign_at((1, a, 0, 0)),
-        State::Two(a, b) => sign_at((2, a, b, 0)),
-        State::Three(a, b, c) => sign_at((3, a, b, c)),
+        State::One(a) => sign_of(&[a]),
+        State::Two(a, b) => sign_of(&[a, b]),
+        State::Three(a, b, c) => sign_of(&[a, b, c]),
     }
 }
 

@@ -1,5 +1,8 @@
 //! What spellings there are, and that a call with memory answers Ok.
-use crate::{Lexeme, Mode, Quote, color_value, date_value, longest, real_value, spelled_text};
+use crate::{
+    Lexeme, Mode, Quote, ReservedWord, SIGNS, Sign, color_value, date_value, longest, real_value,
+    reserved_word, spelled_text,
+};
 use fx8::Text;
 use std::alloc::Global;
 use std::test::Fail;
@@ -39,8 +42,12 @@ fn pieces(rt: HostRuntime) -> Result<(), Fail> {
         (Mode::Plain, "1.2.3", Some((3, Lexeme::Double))),
         (Mode::Plain, "2.a", Some((2, Lexeme::Double))),
         (Mode::Plain, ".5E1", Some((4, Lexeme::Double))),
-        (Mode::Plain, ".a", Some((1, Lexeme::Sign(8)))),
-        (Mode::Plain, ">>>=", Some((2, Lexeme::Sign(20)))),
+        (Mode::Plain, ".a", Some((1, Lexeme::Sign(Sign::Dot)))),
+        (
+            Mode::Plain,
+            ">>>=",
+            Some((2, Lexeme::Sign(Sign::ShiftRight))),
+        ),
         (Mode::Plain, "/*/*/x", Some((5, Lexeme::Blank))),
         (Mode::Plain, "/* x\n", Some((5, Lexeme::OpenComment))),
         (Mode::Plain, "// x\ny", Some((4, Lexeme::Blank))),
@@ -75,7 +82,7 @@ fn pieces(rt: HostRuntime) -> Result<(), Fail> {
             Some((5, Lexeme::Quoted(Quote::Library))),
         ),
         (Mode::Include, "<a\n", Some((2, Lexeme::OpenString))),
-        (Mode::Hash, "<a.b>", Some((1, Lexeme::Sign(21)))),
+        (Mode::Hash, "<a.b>", Some((1, Lexeme::Sign(Sign::Less)))),
     ];
     for (mode, source, want) in table {
         assert_eq!(rt; piece(alloc, mode, source)?, want, "{source:?}");
@@ -92,12 +99,33 @@ fn signs(rt: HostRuntime) -> Result<(), Fail> {
         "-=", "*=", "/=", "%=", "<<=", ">>=", "&=", "^=", "|=", "++", "--", "#",
     ];
     let mut number = 0u8;
-    for sign in table {
+    for (sign, spelling) in SIGNS.iter().zip(table) {
+        assert_eq!(rt; sign.number(), number);
         assert_eq!(rt;
-            piece(alloc, Mode::Plain, sign)?,
-            Some((sign.len(), Lexeme::Sign(number)))
+            piece(alloc, Mode::Plain, spelling)?,
+            Some((spelling.len(), Lexeme::Sign(*sign)))
         );
         number = number.saturating_add(1);
+    }
+    assert_eq!(rt; number, 46);
+    Ok(())
+}
+
+#[test]
+fn words(rt: HostRuntime) -> Result<(), Fail> {
+    let alloc: Global = rt.alloc();
+    let table = [
+        ("int", Some(ReservedWord::Int)),
+        ("sinput", Some(ReservedWord::StaticInput)),
+        ("NULL", Some(ReservedWord::Null)),
+        ("dynamic_cast", Some(ReservedWord::DynamicCast)),
+        ("null", None),
+        ("inte", None),
+        ("", None),
+    ];
+    for (source, want) in table {
+        let name = units(alloc, source)?;
+        assert_eq!(rt; reserved_word(name.as_slice()), want, "{source:?}");
     }
     Ok(())
 }

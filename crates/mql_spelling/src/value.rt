@@ -17,7 +17,8 @@ pub fn digit_value(unit: u16) -> u16
 
 /// The number with one digit more, where it fits 64 bits.
 fn with_digit(base: u64, value: u64, digit: u16) -> Option<u64>
-    ensures { MatchOption result (2 ^ 64 ≤ base * value + digit_value digit) (λ next. next ≡ base * value + digit_value digit) }
+    ensures { MatchOption result (2 ^ 64 ≤ base * value + digit_value digit)
+        (λ next. next ≡ base * value + digit_value digit) }
 {
     let shifted = base.checked_mul(value)?;
     shifted.checked_add(u64::from(digit_value(digit)))
@@ -26,7 +27,8 @@ fn with_digit(base: u64, value: u64, digit: u16) -> Option<u64>
 /// The number of these digits, where it fits 64 bits.
 pub fn number(base: u64, digits: &[u16]) -> Option<u64>
     requires { 1 ≤ base }
-    ensures { MatchOption result (2 ^ 64 ≤ value_from base 0 digits.now) (λ value. value ≡ value_from base 0 digits.now) }
+    ensures { MatchOption result (2 ^ 64 ≤ value_from base 0 digits.now)
+        (λ value. value ≡ value_from base 0 digits.now) }
 {
     let mut value = 0u64;
     let mut rest = digits;

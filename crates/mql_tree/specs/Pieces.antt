@@ -8,6 +8,7 @@ use Rattle.mql_spelling.specs.declared.lexeme.Lexeme.TheVariants as pieces
 use Rattle.mql_spelling.specs.Value.{value_from, spelled}
 use Rattle.mql_spelling.specs.Real.{real_value}
 use Rattle.mql_spelling.specs.Marked.{date_value, color_value}
+use Rattle.mql_tree.specs.declared.token.IncludePlace.TheVariants.{BesideFile, Supplied}
 use Rattle.mql_tree.specs.declared.token.Token.TheVariants as tokens
 use Rattle.mql_tree.specs.declared.value.PieceFault.TheVariants as faults
 use Rattle.mql_tree.specs.declared.value.Meaning.{Meaning}
@@ -69,8 +70,8 @@ quoted quotes.Str us = string (spelled (between us))
 quoted quotes.Char us = character (spelled (between us))
 quoted quotes.Date us = date_of (date_value (drop 1 (between us)))
 quoted quotes.Color us = color_of (color_value (drop 1 (between us)))
-quoted quotes.File us = Token (tokens.IncludeName (between us))
-quoted quotes.Library us = Token (tokens.IncludeName (between us))
+quoted quotes.File us = Token (tokens.IncludeName (between us) BesideFile)
+quoted quotes.Library us = Token (tokens.IncludeName (between us) Supplied)
 
 -- what a piece means
 unfoldable pub meaning : Lexeme → List ℕ → Meaning
@@ -82,5 +83,5 @@ meaning pieces.Hexadecimal us = hexadecimal (value_from 16 0 (drop 2 us))
 meaning pieces.Double us = real_of (real_value us)
 meaning (pieces.Quoted quote) us = quoted quote us
 meaning pieces.OpenString us = Fault faults.OpenString
-meaning (pieces.Sign number) us = Token (tokens.Sign number)
+meaning (pieces.Sign sign) us = Token (tokens.Sign sign)
 meaning pieces.LineEnd us = Token tokens.LineEnd

@@ -15,8 +15,8 @@ most_units = 1048576
 abbrev pub units_of : List ℕ → List ℕ
 units_of cs = flat_map encode_utf16 cs
 
--- the text of bytes in UTF-8 that stand behind a mark of so many bytes: the units of the characters before the first
--- byte that is no UTF-8, and there the fault; too many units stand before it (own)
+-- the text of bytes in UTF-8 that stand behind a mark of so many bytes: the units of the characters before
+-- the first byte that is no UTF-8, and there the fault; too many units stand before it (own)
 unfoldable pub utf8_text : ℕ → List ℕ → Result (List ℕ) TextFault
 utf8_text mark bytes = let valid = utf8_valid_len bytes in let units = units_of (chars (take valid bytes)) in
     if nat_lt most_units (length units) then Err TooLong
@@ -39,11 +39,15 @@ is_odd [] = false
 abbrev pub is_surrogate : ℕ → Bool
 is_surrogate u = is_high_surrogate u || is_low_surrogate u
 
--- how many units the character at the front has: none where there stands a surrogate without its partner (own)
+-- how many units the character at the front has: none where a surrogate stands there without its partner
+-- (own)
 abbrev pub front_len : List ℕ → ℕ
 front_len [] = 0
 front_len (u ∷ []) = if is_surrogate u then 0 else 1
-front_len (u ∷ v ∷ us) = if is_high_surrogate u && is_low_surrogate v then 2 else if is_surrogate u then 0 else 1
+front_len (u ∷ v ∷ us) =
+    if is_high_surrogate u && is_low_surrogate v then 2
+    else if is_surrogate u then 0
+    else 1
 
 -- the place of the first surrogate that has no partner, in units that begin at place k (own)
 unfoldable pub lone_from : ℕ → List ℕ → Option ℕ
@@ -57,13 +61,17 @@ lone_from k (u ∷ v ∷ us) =
 -- the text of units: the first fault in it, where too many units are a fault at the first one too many (own)
 abbrev pub lone_or_long : List ℕ → Option ℕ → Bool → Result (List ℕ) TextFault
 lone_or_long units (Some k) odd = if nat_lt most_units k then Err TooLong else Err (LoneSurrogate (2 + 2 * k))
-lone_or_long units None odd = if nat_lt most_units (length units) then Err TooLong else if odd then Err OddLength else Ok units
+lone_or_long units None odd =
+    if nat_lt most_units (length units) then Err TooLong
+    else if odd then Err OddLength
+    else Ok units
 
 -- the text of bytes in UTF-16 that stand behind their mark (own)
 unfoldable pub utf16_text : List ℕ → Result (List ℕ) TextFault
 utf16_text bytes = lone_or_long (le_units bytes) (lone_from 0 (le_units bytes)) (is_odd bytes)
 
--- The text of a file: behind FF FE it is UTF-16 with the low byte first, else UTF-8, of which a mark EF BB BF is dropped (own).
+-- The text of a file: behind FF FE it is UTF-16 with the low byte first, else UTF-8, of which a mark EF BB BF
+-- is dropped (own).
 abbrev pub text_of : List ℕ → Result (List ℕ) TextFault
 text_of bytes =
     if starts_with nat_eq bytes (255 ∷ 254 ∷ []) then utf16_text (drop 2 bytes)

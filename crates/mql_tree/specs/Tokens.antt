@@ -1,5 +1,7 @@
--- Which tokens a text has, and where: blanks, comments and spellings in turn, each piece the longest that stands there.
+-- Which tokens a text has, and where: blanks, comments and spellings in turn, each piece the longest that
+-- stands there.
 use Rattle.std.specs.Prelude.{◌≡◌, ℕ, ◌+◌, ◌<◌, ◌==◌, List, [], ◌∷◌, ◌++◌, length, take, drop, Some, None, Result, Ok, Err, bytes_eq, codes, count_by, if◌then◌else◌}
+use Rattle.mql_spelling.specs.declared.sign.Sign.TheVariants as signs
 use Rattle.mql_spelling.specs.declared.lexeme.Lexeme.{Lexeme}
 use Rattle.mql_spelling.specs.declared.lexeme.Mode.{Mode}
 use Rattle.mql_spelling.specs.declared.lexeme.Mode.TheVariants.{Plain, Hash, Include, Directive}
@@ -22,12 +24,8 @@ behind_hash (tokens.Name name) = if bytes_eq name (codes "include") then Include
 behind_hash tokens.LineEnd = Plain
 behind_hash other = Directive
 
--- the sign `#` (own)
-abbrev pub hash : ℕ
-hash = 45
-
 abbrev pub behind_plain : token.Token → Mode
-behind_plain (tokens.Sign number) = if number == hash then Hash else Plain
+behind_plain (tokens.Sign signs.Hash) = Hash
 behind_plain other = Plain
 
 abbrev pub behind_other : token.Token → Mode
@@ -52,11 +50,20 @@ line_ends us = count_by (λ u. u == 10) us
 
 -- the place behind a piece
 abbrev pub behind : Spot → Mode → List ℕ → Spot
-behind spot mode piece = record { mode = mode; line = spot.line + line_ends piece; place = spot.place + length piece }
+behind spot mode piece = record {
+  mode = mode;
+  line = spot.line + line_ends piece;
+  place = spot.place + length piece;
+}
 
 -- where a piece stands
 abbrev pub span_of : ℕ → Spot → ℕ → Span
-span_of file spot count = record { file = file; line = spot.line; start = spot.place; end = spot.place + count }
+span_of file spot count = record {
+  file = file;
+  line = spot.line;
+  start = spot.place;
+  end = spot.place + count;
+}
 
 -- the fault of a piece, and where
 abbrev pub fault_at : PieceFault → Span → LexFault
@@ -71,25 +78,30 @@ abbrev pub Answer : Type 0
 Answer = Result (List (token.Token × Span)) LexFault
 
 -- what is answered with these tokens in front
-abbrev pub prefixed : List (token.Token × Span) → Result (List (token.Token × Span)) LexFault → Result (List (token.Token × Span)) LexFault
+abbrev pub prefixed : List (token.Token × Span) → Answer → Answer
 prefixed front (Ok rest) = Ok (front ++ rest)
 prefixed front (Err fault) = Err fault
 
 -- From a spot on the text has these tokens, or this first fault.
-pub data Lexes (file : ℕ) : Spot → List ℕ → Result (List (token.Token × Span)) LexFault → Type 0 where
+pub data Lexes (file : ℕ) : Spot → List ℕ → Answer → Type 0 where
   -- the text ends
   ended : {spot : Spot} → Lexes file spot [] (Ok [])
   -- a blank or a comment
-  blank : {spot : Spot} {us : List ℕ} {answer : _} (n : ℕ) (what : Lexeme) → Longest (lexeme spot.mode) us (Some (n, what)) → meaning what (take n us) ≡ Nothing
+  blank : {spot : Spot} {us : List ℕ} {answer : _} (n : ℕ) (what : Lexeme)
+      → Longest (lexeme spot.mode) us (Some (n, what)) → meaning what (take n us) ≡ Nothing
       → Lexes file (behind spot spot.mode (take n us)) (drop n us) answer → Lexes file spot us answer
   -- a token
-  spelled : {spot : Spot} {us : List ℕ} {answer : _} (n : ℕ) (what : Lexeme) (t : token.Token) → Longest (lexeme spot.mode) us (Some (n, what)) → meaning what (take n us) ≡ Token t
-      → Lexes file (behind spot (mode_behind spot.mode t) (take n us)) (drop n us) answer → Lexes file spot us (prefixed ((t, span_of file spot n) ∷ []) answer)
+  spelled : {spot : Spot} {us : List ℕ} {answer : _} (n : ℕ) (what : Lexeme) (t : token.Token)
+      → Longest (lexeme spot.mode) us (Some (n, what)) → meaning what (take n us) ≡ Token t
+      → Lexes file (behind spot (mode_behind spot.mode t) (take n us)) (drop n us) answer
+      → Lexes file spot us (prefixed ((t, span_of file spot n) ∷ []) answer)
   -- a piece that means no token
-  broken : {spot : Spot} {us : List ℕ} (n : ℕ) (what : Lexeme) (fault : PieceFault) → Longest (lexeme spot.mode) us (Some (n, what)) → meaning what (take n us) ≡ Fault fault
+  broken : {spot : Spot} {us : List ℕ} (n : ℕ) (what : Lexeme) (fault : PieceFault)
+      → Longest (lexeme spot.mode) us (Some (n, what)) → meaning what (take n us) ≡ Fault fault
       → Lexes file spot us (Err (fault_at fault (span_of file spot n)))
   -- no piece begins there
-  nothing : {spot : Spot} {us : List ℕ} → 0 < length us → Longest (lexeme spot.mode) us None → Lexes file spot us (Err (NoToken (span_of file spot 1)))
+  nothing : {spot : Spot} {us : List ℕ} → 0 < length us → Longest (lexeme spot.mode) us None
+      → Lexes file spot us (Err (NoToken (span_of file spot 1)))
 
 -- the place at which a text begins
 abbrev pub start : Spot

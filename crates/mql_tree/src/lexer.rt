@@ -7,11 +7,8 @@ ghost use Rattle.mql_tree.specs.Tokens.{behind_hash, behind_plain, behind_other,
 use crate::value::{Meaning, PieceFault, piece_meaning};
 use crate::{LexFault, Span, Token, Tokens};
 use fx8::Text;
-use mql_spelling::{Mode, longest};
+use mql_spelling::{Mode, Sign, longest};
 use std::alloc::Global;
-
-/// The number of the sign `#`.
-const HASH: u8 = 45;
 
 /// The name behind which a file's name stands.
 const INCLUDE: [u16; 7] = [105, 110, 99, 108, 117, 100, 101];
@@ -36,13 +33,7 @@ fn behind_plain(token: &Token) -> Mode
     ensures { result ≡ behind_plain token.now }
 {
     match token {
-        Token::Sign(number) => {
-            if *number == HASH {
-                Mode::Hash
-            } else {
-                Mode::Plain
-            }
-        }
+        Token::Sign(Sign::Hash) => Mode::Hash,
         _ => Mode::Plain,
     }
 }
@@ -90,7 +81,8 @@ fn fault_at(fault: PieceFault, span: Span) -> LexFault
     }
 }
 
-/// The tokens of a text that is the file of that number, or the first fault in it. It asks for at most 1,048,576 units.
+/// The tokens of a text that is the file of that number, or the first fault in it. It asks for at most
+/// 1,048,576 units.
 pub fn lex(alloc: Global, file: u32, text: &Text) -> Result<Tokens, LexFault>
     requires { length text.now ≤ 1048576 }
     ensures { IsLexed file text.now result }

@@ -10,4 +10,4 @@ mod value;
 
 pub use lexer::{lex, one_answer};
 pub use text::{TextFault, text_of_bytes};
-pub use token::{LexFault, Span, Token, Tokens, Tree, TreeList};
+pub use token::{IncludePlace, LexFault, Span, Token, Tokens, Tree, TreeList};

@@ -51,8 +51,10 @@ fn shown(alloc: Global, token: &Token) -> Result<String, Fail> {
         Token::Int { value, kind } => format!(in alloc; "{value} {kind:?}")?,
         Token::Double(number) => format!(in alloc; "double {}", number.units())?,
         Token::Str(units) => format!(in alloc; "str {:?}", units.as_slice())?,
-        Token::Sign(number) => format!(in alloc; "sign {number}")?,
-        Token::IncludeName(name) => format!(in alloc; "file {:?}", name.as_slice())?,
+        Token::Sign(sign) => format!(in alloc; "sign {sign:?}")?,
+        Token::IncludeName { name, place } => {
+            format!(in alloc; "file {:?} {place:?}", name.as_slice())?
+        }
         Token::LineEnd => format!(in alloc; "end")?,
     };
     Ok(text)
@@ -109,7 +111,7 @@ fn tokens_of_texts(rt: HostRuntime) -> Result<(), Fail> {
         ),
         ("D'2001.02.29'", "no token at line 1"),
         ("C'256,0,0'", "no token at line 1"),
-        ("a>>=b", "name [97]; sign 39; name [98]; "),
+        ("a>>=b", "name [97]; sign ShiftRightAssign; name [98]; "),
         ("a/*b*/c", "name [97]; name [99]; "),
         ("// x\ny", "name [121]; "),
         ("\n/* x", "an open comment at line 2"),
@@ -121,15 +123,16 @@ fn tokens_of_texts(rt: HostRuntime) -> Result<(), Fail> {
         ("''", "no token at line 1"),
         (
             "#include \"a\\b.mqh\"\nx",
-            "sign 45; name [105, 110, 99, 108, 117, 100, 101]; file [97, 92, 98, 46, 109, 113, 104]; end; name [120]; ",
+            "sign Hash; name [105, 110, 99, 108, 117, 100, 101]; \
+             file [97, 92, 98, 46, 109, 113, 104] BesideFile; end; name [120]; ",
         ),
         (
             "#include <T>\n\"a\"",
-            "sign 45; name [105, 110, 99, 108, 117, 100, 101]; file [84]; end; str [97]; ",
+            "sign Hash; name [105, 110, 99, 108, 117, 100, 101]; file [84] Supplied; end; str [97]; ",
         ),
         (
             "#define A \\\n B\nC",
-            "sign 45; name [100, 101, 102, 105, 110, 101]; name [65]; name [66]; end; name [67]; ",
+            "sign Hash; name [100, 101, 102, 105, 110, 101]; name [65]; name [66]; end; name [67]; ",
         ),
         ("a\\\nb", "no token at line 1"),
         ("a\n\n@ $", "no token at line 3"),

@@ -200,8 +200,8 @@ fn utf16_text(alloc: Global, bytes: &[u8]) -> Result<Text, TextFault>
     }
 }
 
-/// The text of a file: behind the mark FF FE it is UTF-16 with the low byte first, else UTF-8, of which a mark EF BB BF
-/// is dropped. A text has at most 1,048,576 units; the first fault in the bytes is told.
+/// The text of a file: behind the mark FF FE it is UTF-16 with the low byte first, else UTF-8, of which a
+/// mark EF BB BF is dropped. A text has at most 1,048,576 units; the first fault in the bytes is told.
 pub fn text_of_bytes(alloc: Global, bytes: &[u8]) -> Result<Text, TextFault>
     ensures exact { Answers result (text_of bytes.now) }
     ensures few { IfOk result (λ text. length text ≤ 1048576) }

@@ -1,15 +1,30 @@
 //! Tokens and trees.
+ghost use Rattle.std.specs.Prelude.{◌≡◌};
+ghost use Rattle.std.specs.Option.{option_copied};
+ghost use Rattle.mql_tree.specs.TokenSorts.{name_of, is_sign};
 
 use fx8::{Fix8, IntKind, ItemList, OutOfMemory, Text};
+use mql_forms::Form;
+use mql_spelling::Sign;
 use thiserror::Error;
 
-/// Where a token stands: the file's number, the line from 1 on, and the places of its first unit and behind its last.
+/// Where a token stands: the file's number, the line from 1 on, and the places of its first unit and behind
+/// its last.
 #[derive(Clone, Copy, Debug, PartialEq, Eq)]
 pub struct Span {
     pub file: u32,
     pub line: u32,
     pub start: u32,
     pub end: u32,
+}
+
+/// Where an included file is looked for.
+#[derive(Clone, Copy, Debug, PartialEq, Eq)]
+pub enum IncludePlace {
+    /// Beside the file that includes it: its name stands in quotation marks.
+    BesideFile,
+    /// Among the supplied files: its name stands in angle brackets.
+    Supplied,
 }
 
 /// A token of the language.
@@ -23,12 +38,34 @@ pub enum Token {
     Double(Fix8),
     /// A string, with its escapes resolved.
     Str(Text),
-    /// A sign, by its number in the list of signs.
-    Sign(u8),
-    /// The name of an included file.
-    IncludeName(Text),
+    /// A sign.
+    Sign(Sign),
+    /// The name of an included file, and where it is looked for.
+    IncludeName { name: Text, place: IncludePlace },
     /// The end of a directive's line.
     LineEnd,
+}
+
+impl Token {
+    /// The name or reserved word that it is.
+    pub fn name(&self) -> Option<&Text>
+        ensures { option_copied result ≡ name_of self.now }
+    {
+        match self {
+            Token::Name(name) => Some(name),
+            _ => None,
+        }
+    }
+
+    /// Whether it is the sign.
+    pub fn is_sign(&self, sign: Sign) -> bool
+        ensures { result ≡ is_sign sign self.now }
+    {
+        match self {
+            Token::Sign(own) => own.is(sign),
+            _ => false,
+        }
+    }
 }
 
 /// Tokens with their places, in the order of the text.
@@ -72,7 +109,7 @@ impl From<OutOfMemory> for LexFault {
 #[derive(Debug, Drop)]
 pub enum Tree {
     Leaf { token: u32 },
-    Node { form: u8, parts: TreeList },
+    Node { form: Form, parts: TreeList },
 }
 
 /// Trees, as the parts of a node.

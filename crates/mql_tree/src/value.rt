@@ -5,7 +5,7 @@ ghost use Rattle.mql_tree.specs.Pieces.{decimal, hexadecimal, named, between, st
 ghost use Rattle.mql_tree.specs.declared.token.Token.TheVariants as tokens;
 ghost use Rattle.mql_tree.specs.declared.value.Meaning.TheVariants as meanings;
 
-use crate::Token;
+use crate::{IncludePlace, Token};
 use fx8::{Fix8, IntKind, OutOfMemory, Text};
 use mql_spelling::{Lexeme, Quote, color_value, date_value, number, real_value, spelled_text};
 use std::alloc::Global;
@@ -127,8 +127,8 @@ fn quoted(alloc: Global, quote: Quote, piece: &[u16]) -> Result<Meaning, OutOfMe
         Quote::Char => character(alloc, piece),
         Quote::Date => Ok(date(date_value(behind_mark(piece)))),
         Quote::Color => Ok(color(color_value(behind_mark(piece)))),
-        Quote::File => included(alloc, piece),
-        Quote::Library => included(alloc, piece),
+        Quote::File => included(alloc, IncludePlace::BesideFile, piece),
+        Quote::Library => included(alloc, IncludePlace::Supplied, piece),
     }
 }
 
@@ -200,12 +200,12 @@ fn date(value: Option<u64>) -> Meaning
     }
 }
 
-/// The name of an included file.
-fn included(alloc: Global, piece: &[u16]) -> Result<Meaning, OutOfMemory>
-    ensures { IfOk result (λ means. means ≡ meanings.Token (tokens.IncludeName (between piece.now))) }
+/// The name of an included file that is looked for there.
+fn included(alloc: Global, place: IncludePlace, piece: &[u16]) -> Result<Meaning, OutOfMemory>
+    ensures { IfOk result (λ means. means ≡ meanings.Token (tokens.IncludeName (between piece.now) place)) }
 {
     let name = Text::from_slice(alloc, between(piece))?;
-    Ok(Meaning::Token(Token::IncludeName(name)))
+    Ok(Meaning::Token(Token::IncludeName { name, place }))
 }
 
 /// What a piece means.
@@ -223,7 +223,7 @@ pub fn piece_meaning(alloc: Global, what: Lexeme, piece: &[u16]) -> Result<Meani
         Lexeme::Double => Ok(real(real_value(alloc, piece)?)),
         Lexeme::Quoted(quote) => quoted(alloc, quote, piece),
         Lexeme::OpenString => Ok(Meaning::Fault(PieceFault::OpenString)),
-        Lexeme::Sign(number) => Ok(Meaning::Token(Token::Sign(number))),
+        Lexeme::Sign(sign) => Ok(Meaning::Token(Token::Sign(sign))),
         Lexeme::LineEnd => Ok(Meaning::Token(Token::LineEnd)),
     }
 }

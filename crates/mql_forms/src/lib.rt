@@ -1,0 +1,6 @@
+//! The forms of the nodes of a tree.
+#![tactic(auto)]
+
+mod form;
+
+pub use form::Form;
