@@ -1,5 +1,5 @@
--- Doubles of the fixed-point profile: counts of units of 10^-8 that 64 bits with a sign hold (own; for MQL5 Reference,
--- Real Types).
+-- Doubles of the fixed-point profile: counts of units of 10^-8 that 64 bits with a sign hold (own; in place
+-- of MQL5 Reference, Real Types).
 use Rattle.std.specs.Prelude.{⊤, ℕ, ◌+◌, ◌-◌, ◌*◌, ◌^◌, ◌<◌, ◌≤◌, ◌≡◌, Bool, ◌&&◌, if◌then◌else◌, ℤ, pos, negsuc, neg_ℤ, ◌+ℤ◌, ◌-ℤ◌, ◌*ℤ◌, int_le, int_lt, int_div, Option, Some, None, Result, Ok, Err}
 use Rattle.fx8.specs.Integers.{is_zero}
 use Rattle.fx8.specs.Rounding.{rounded}

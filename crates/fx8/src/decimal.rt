@@ -42,11 +42,12 @@ fn are_digits(text: &[u8]) -> bool
     true
 }
 
-#[tactic(auto, using(crate::proofs::Digits::front_digit, crate::proofs::Digits::rest_digits, crate::proofs::Digits::number_grows, crate::proofs::Digits::number_step, crate::proofs::Digits::number_end))]
 /// The number that digits go on with after a number; `None` exactly where 64 bits do not hold it.
+#[tactic(auto, using(crate::proofs::Digits::front_digit, crate::proofs::Digits::rest_digits, crate::proofs::Digits::number_grows, crate::proofs::Digits::number_step, crate::proofs::Digits::number_end))]
 fn number_after(number: u64, digits: &[u8]) -> Option<u64>
     requires { all_digits digits.now ≡ true }
-    ensures { MatchOption result (2 ^ 64 ≤ number_after number digits.now) (λ n. n ≡ number_after number digits.now) }
+    ensures { MatchOption result (2 ^ 64 ≤ number_after number digits.now)
+        (λ n. n ≡ number_after number digits.now) }
 {
     let mut value = number;
     let mut rest = digits;
@@ -93,13 +94,15 @@ fn scaled(number: u64, places: usize, more: u64) -> u128
     number as u128 * unit_of_place(places as u8) as u128 + more as u128
 }
 
+/// How many units of 10^-8 digits before and behind a point are, rounded past the eighth decimal, half away
+/// from zero; `None` only where 64 bits do not hold them.
 #[tactic(auto, using(crate::proofs::Digits::digits_taken))]
-/// How many units of 10^-8 digits before and behind a point are, rounded past the eighth decimal, half away from zero;
-/// `None` only where 64 bits do not hold them.
 fn size(whole: &[u8], decimals: &[u8]) -> Option<u128>
     requires whole { all_digits whole.now ≡ true }
     requires decimals { all_digits decimals.now ≡ true }
-    ensures value { (below : Bool) → MatchOption result (fits_double (units_of below whole.now decimals.now) ≡ false) (λ n. units_of below whole.now decimals.now ≡ signed below n) }
+    ensures value { (below : Bool) → MatchOption result
+        (fits_double (units_of below whole.now decimals.now) ≡ false)
+        (λ n. units_of below whole.now decimals.now ≡ signed below n) }
     ensures at_most { IfSome result (λ n. n < 2 ^ 127) }
 {
     let front = first_decimals(decimals);
@@ -188,8 +191,9 @@ fn behind_sign(text: &[u8]) -> &[u8]
 }
 
 impl Fix8 {
-    /// The double of a decimal text: an optional `-`, digits, and optionally a point and digits, rounded past the eighth
-    /// decimal half away from zero. `None` exactly where the text has not this form, or 64 bits do not hold the units.
+    /// The double of a decimal text: an optional `-`, digits, and optionally a point and digits, rounded
+    /// past the eighth decimal half away from zero. `None` exactly where the text has not this form, or 64
+    /// bits do not hold the units.
     #[tactic(auto, unfolding(crate::specs::Decimals::double_of_text))]
     pub fn of_text(text: &[u8]) -> Option<Fix8>
         ensures { result ≡ double_of_text text.now }

@@ -62,8 +62,8 @@ fn write_decimals(units: u64, out: &mut Text8) -> Result<(), OutOfMemory>
     Ok(())
 }
 
-#[tactic(auto, using(crate::proofs::Written::text_joined))]
 /// Appends the text of a number; where there is no memory some of it may be there.
+#[tactic(auto, using(crate::proofs::Written::text_joined))]
 fn write_text(units: i64, out: &mut Text8) -> Result<(), OutOfMemory>
     ensures ok { OnOk result (out.new ≡ out.old ++ text_of units) }
     ensures kept { take (length out.old) out.new ≡ out.old }
@@ -77,8 +77,8 @@ fn write_text(units: i64, out: &mut Text8) -> Result<(), OutOfMemory>
 }
 
 impl Fix8 {
-    /// Appends the shortest decimal text of the number with at least one decimal, which `of_text` reads to the number. A refused
-    /// call changes nothing.
+    /// Appends the shortest decimal text of the number with at least one decimal, which `of_text` reads to
+    /// the number. A refused call changes nothing.
     #[tactic(auto, using(crate::proofs::ReadBack::read_back))]
     pub fn print(self, out: &mut Text8) -> Result<(), OutOfMemory>
         ensures ok { OnOk result (out.new ≡ out.old ++ text_of self) }

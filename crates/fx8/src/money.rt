@@ -3,7 +3,8 @@ ghost use Rattle.std.specs.Prelude.{◌≡◌};
 
 use std::marker::Model;
 
-/// An amount of money: a signed 128-bit count of hundredths of the account's currency. Contracts see the count.
+/// An amount of money: a signed 128-bit count of hundredths of the account's currency. Contracts see the
+/// count.
 #[derive(Clone, Copy, Debug, PartialEq, Eq, PartialOrd, Ord)]
 pub struct Money {
     cents: i128,

@@ -48,8 +48,8 @@ fn signs_differ(p: i128, q: i128) -> bool
     }
 }
 
-/// The whole number nearest to `p / q`, the one farther from zero at a tie. `p` is not the least number of 128 bits,
-/// and `q` is not 0.
+/// The whole number nearest to `p / q`, the one farther from zero at a tie. `p` is not the least number of
+/// 128 bits, and `q` is not 0.
 #[tactic(auto, unfolding(crate::specs::Rounding::rounded))]
 pub fn rounded(p: i128, q: i128) -> i128
     requires divisor { is_zero q ≡ false }

@@ -7,8 +7,8 @@ use crate::OutOfMemory;
 use std::alloc::Global;
 use std::marker::Model;
 
-/// A list of tickets of orders, deals or positions. Contracts see its items, and `spare`: for how many more it has room.
-/// `reserve` makes room; a `push` into the room takes no memory.
+/// A list of tickets of orders, deals or positions. Contracts see its items, and `spare`: for how many more
+/// it has room. `reserve` makes room; a `push` into the room takes no memory.
 #[derive(Debug, Drop)]
 pub struct Tickets {
     items: Vec<u64>,
@@ -21,7 +21,10 @@ impl Model for Tickets {
 
     ghost Value = { Roomy };
 
-    ghost view = { λ list. record { items = list.items.items; spare = vec_capacity list.items - vec_len list.items } };
+    ghost view = { λ list. record {
+      items = list.items.items;
+      spare = vec_capacity list.items - vec_len list.items;
+    } };
 }
 
 impl Tickets {
