@@ -1,5 +1,5 @@
 -- Keys of the settings that hold amounts of money and volumes. Own.
-use Rattle.std.specs.Prelude.{ℕ, ◌*◌, ◌&&◌, if◌then◌else◌, List, Option, Some, None, ℤ, pos, neg_ℤ, ◌*ℤ◌, int_le, Result, Ok, Err}
+use Rattle.std.specs.Prelude.{ℕ, ◌*◌, ◌&&◌, if◌then◌else◌, Option, Some, None, ℤ, pos, ◌*ℤ◌, int_le, Result, Ok, Err}
 use Rattle.toml.specs.Data.{Data, string, integer}
 use Rattle.decimals.specs.Texts.{signed}
 use Rattle.settings_file.specs.declared.keys.KeyFault.{KeyFault}

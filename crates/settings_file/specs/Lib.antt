@@ -4,4 +4,7 @@ pub mod Entries
 pub mod Faults
 pub mod Keys
 pub mod Names
+pub mod Ranges
+pub mod Settings
+pub mod Symbols
 pub mod Unknown

@@ -1,6 +1,7 @@
 //! Keys that hold amounts of money and volumes.
 ghost use Rattle.std.specs.Prelude.{◌≡◌, ◌≤◌, ◌*◌, pos, ◌*ℤ◌, ◌≤ℤ◌, option_map, IfOk, Some};
 ghost use Rattle.toml.specs.View.{view};
+ghost use Rattle.market_types.specs.Ranges.{IsVolume};
 ghost use Rattle.settings_file.specs.Amounts.{of_form, amount_in, money_data, money_key, volume_data, volume_key};
 
 use crate::keys::KeyFault;
@@ -87,7 +88,7 @@ fn volume_data(value: &Value) -> Result<i128, KeyFault>
 
 fn volume_in(value: &Value) -> Result<i64, KeyFault>
     ensures value { result ≡ volume_key (pos 1) (Some (view value.now)) }
-    ensures range { IfOk result (λ n. (pos 1 ≤ℤ n) × (n ≤ℤ pos 100000000000)) }
+    ensures range { IfOk result IsVolume }
 {
     match volume_data(value) {
         Ok(units) => match amount_in(1, 100_000_000_000, units) {
@@ -100,9 +101,9 @@ fn volume_in(value: &Value) -> Result<i64, KeyFault>
 
 /// A volume above 0 and at most 1000, in units of 10^-8; `preset` where the key is missing.
 pub(crate) fn volume_key(preset: i64, value: Option<&Value>) -> Result<i64, KeyFault>
-    requires { (pos 1 ≤ℤ preset) × (preset ≤ℤ pos 100000000000) }
+    requires { IsVolume preset }
     ensures value { result ≡ volume_key preset (option_map (λ v. view v.now) value.entry) }
-    ensures range { IfOk result (λ n. (pos 1 ≤ℤ n) × (n ≤ℤ pos 100000000000)) }
+    ensures range { IfOk result IsVolume }
 {
     match value {
         None => Ok(preset),

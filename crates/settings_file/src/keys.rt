@@ -1,8 +1,10 @@
 //! What a key may hold.
-ghost use Rattle.std.specs.Prelude.{◌≡◌, ◌≤◌, ◌&&◌, option_map, All, IfOk, IfSome, IsTrue, ◌↔◌, ⊤};
+ghost use Rattle.std.specs.Prelude.{◌≡◌, ◌≤◌, option_map, All, IfOk, IfSome, IsTrue};
 ghost use Rattle.std.specs.Option.{option_copied};
 ghost use Rattle.toml.specs.Data.{get_member};
 ghost use Rattle.toml.specs.View.{view, table_view, items_view};
+ghost use Rattle.market_types.specs.Ranges.{IsNameCharacter, IsSymbolName};
+ghost use Rattle.tester_settings.specs.Ranges.{IsLetter, IsCurrency};
 ghost use Rattle.settings_file.specs.Keys.{rule_of, map_ok, whole_in, whole_data, whole_key, whole_if_any, text_data, word_key, mode_of, period_of, account_of, expert_key, all_of, is_letter, is_visible, is_name_of, text_in, currency_key, name_key, text_key, list_key, table_data};
 
 use market_types::{Mode, Period};
@@ -90,13 +92,9 @@ pub(crate) fn whole_key(
 }
 
 /// A whole number, where there is one.
-pub(crate) fn whole_if_any(
-    lo: u32,
-    hi: u32,
-    value: Option<&Value>,
-) -> Result<Option<u32>, KeyFault>
+pub(crate) fn whole_if_any(lo: u32, hi: u32, value: Option<&Value>) -> Result<Option<u32>, KeyFault>
     ensures value { result ≡ whole_if_any lo hi (option_map (λ v. view v.now) value.entry) }
-    ensures range { IfOk result (λ o. IfSome o (λ n. (lo ≤ n) × (n ≤ hi))) }
+    ensures range { IfOk result (λ o. IfSome o (λ n. n ≤ hi)) }
 {
     match value {
         None => Ok(None),
@@ -231,8 +229,10 @@ fn is_visible(b: u8) -> bool
     33 <= b && b <= 126
 }
 
+#[tactic(auto, using(crate::proofs::Characters::letters_all))]
 fn all_letters(text: &[u8]) -> bool
-    ensures { result ≡ all_of is_letter text.now }
+    ensures value { result ≡ all_of is_letter text.now }
+    ensures all { IsTrue result → All IsLetter text.now }
 {
     let mut rest = text;
     while let [b, tail @ ..] = rest {
@@ -244,8 +244,10 @@ fn all_letters(text: &[u8]) -> bool
     true
 }
 
+#[tactic(auto, using(crate::proofs::Characters::visible_all))]
 fn all_visible(text: &[u8]) -> bool
-    ensures { result ≡ all_of is_visible text.now }
+    ensures value { result ≡ all_of is_visible text.now }
+    ensures all { IsTrue result → All IsNameCharacter text.now }
 {
     let mut rest = text;
     while let [b, tail @ ..] = rest {
@@ -258,7 +260,8 @@ fn all_visible(text: &[u8]) -> bool
 }
 
 fn currency_of(text: &str) -> Result<&str, KeyFault>
-    ensures { map_ok (λ s. s.now) result ≡ text_in (is_name_of 8 is_letter) text.now }
+    ensures value { map_ok (λ s. s.now) result ≡ text_in (is_name_of 8 is_letter) text.now }
+    ensures range { IfOk result (λ s. IsCurrency s.now) }
 {
     if 1 <= text.len() && text.len() <= 8 && all_letters(text.as_bytes()) {
         Ok(text)
@@ -269,7 +272,8 @@ fn currency_of(text: &str) -> Result<&str, KeyFault>
 
 /// The account's currency.
 pub(crate) fn currency_key(value: Option<&Value>) -> Result<&str, KeyFault>
-    ensures { map_ok (λ s. s.now) result ≡ currency_key (option_map (λ v. view v.now) value.entry) }
+    ensures value { map_ok (λ s. s.now) result ≡ currency_key (option_map (λ v. view v.now) value.entry) }
+    ensures range { IfOk result (λ s. IsCurrency s.now) }
 {
     match value {
         None => Ok("USD"),
@@ -281,7 +285,8 @@ pub(crate) fn currency_key(value: Option<&Value>) -> Result<&str, KeyFault>
 }
 
 fn name_of(text: &str) -> Result<&str, KeyFault>
-    ensures { map_ok (λ s. s.now) result ≡ text_in (is_name_of 32 is_visible) text.now }
+    ensures value { map_ok (λ s. s.now) result ≡ text_in (is_name_of 32 is_visible) text.now }
+    ensures range { IfOk result (λ s. IsSymbolName s.now) }
 {
     if 1 <= text.len() && text.len() <= 32 && all_visible(text.as_bytes()) {
         Ok(text)
@@ -292,7 +297,8 @@ fn name_of(text: &str) -> Result<&str, KeyFault>
 
 /// A symbol's name.
 pub(crate) fn name_key(value: Option<&Value>) -> Result<&str, KeyFault>
-    ensures { map_ok (λ s. s.now) result ≡ name_key (option_map (λ v. view v.now) value.entry) }
+    ensures value { map_ok (λ s. s.now) result ≡ name_key (option_map (λ v. view v.now) value.entry) }
+    ensures range { IfOk result (λ s. IsSymbolName s.now) }
 {
     match value {
         None => Err(KeyFault::Missing),

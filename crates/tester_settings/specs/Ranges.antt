@@ -1,8 +1,7 @@
 -- The ranges that settings keep.
-use Rattle.std.specs.Prelude.{◌≡◌, ◌⊎◌, ℕ, ◌≤◌, ◌<◌, List, length, get_or, All, ℤ, pos, ◌≤ℤ◌}
+use Rattle.std.specs.Prelude.{◌⊎◌, ℕ, ◌≤◌, List, length, All, pos, ◌≤ℤ◌}
 use Rattle.tester_settings.specs.declared.settings.Settings.{Settings}
 use Rattle.market_types.specs.Ranges.{IsSpec}
-use Rattle.market_types.specs.declared.symbol_spec.SymbolSpec.{SymbolSpec}
 
 -- an ASCII letter
 abbrev pub IsLetter : ℕ → Type 0

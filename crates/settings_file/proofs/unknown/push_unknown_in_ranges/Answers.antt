@@ -14,9 +14,12 @@ loop-input-preserved c =
     let e : Entry = (c.in-Some.input.now, c.in-Some.value.now) in
     let iter : c.loop-input.input-iterator ≡ e ∷ c.next.new.self = grind (arith, common_steps) in
     let inv = subst (λ x. c.loop-input.names ++ unknown_in_ranges (members_view x) ≡ c.args.names.now ++ unknown_in_ranges (members_view c.args.table.now.entries)) iter c.loop-input.invariant.2 in
-    let prefix = c.as_slice.ensures ∙ (c.in_ok-prefix.ensures ∙ ap range_prefix c.as_str.ensures.value) in
-    (tt, tt, one_range_more c.loop-input.names c.push_unknown_of.new.names _ (string_bytes e.0) (view e.1) (members_view c.next.new.self) inv
-    (c.in_ok-push_unknown_of.ensures ∙ ap (λ p. c.loop-input.names ++ unknown_of OfRange p (view e.1)) prefix))
+    let prefix = c.as_slice.ensures ∙ (c.in_ok-prefix.ensures ∙ ap range_prefix c.as_str.ensures.value) in (
+      tt,
+      tt,
+      one_range_more c.loop-input.names c.push_unknown_of.new.names _ (string_bytes e.0) (view e.1) (members_view c.next.new.self) inv
+          (c.in_ok-push_unknown_of.ensures ∙ ap (λ p. c.loop-input.names ++ unknown_of OfRange p (view e.1)) prefix),
+    )
 
 pub returns : goal.returns
 returns c =
