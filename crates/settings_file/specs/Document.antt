@@ -1,4 +1,4 @@
--- The document that the bytes of a file are, by the grammar of TOML 1.1 and the definition of it in the crate `toml`.
+-- The document that the bytes of a file are, by the grammar of TOML 1.1 as the crate `toml` defines it.
 use Rattle.std.specs.Prelude.{◌≡◌, ℕ, List, Some, None, IsUtf8}
 use Rattle.toml.specs.Data.{Members}
 use Rattle.toml.specs.Parse.{parse_document}

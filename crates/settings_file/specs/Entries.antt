@@ -35,7 +35,8 @@ before entry (Err broken) = Err broken
 before entry (Ok entries) = Ok (entry ∷ entries)
 
 abbrev pub assignment : List ℕ → Data → Result Assignment Broken
-assignment name d = at_key (input_name name) (of_kind (value_text d)) (λ text. Ok (record { name = name; text = text }))
+assignment name d =
+    at_key (input_name name) (of_kind (value_text d)) (λ text. Ok (record { name = name; text = text }))
 
 -- the values of inputs
 unfoldable pub assignments : Members → Result (List Assignment) Broken

@@ -1,5 +1,5 @@
--- The settings of a document, or the first rule that it breaks with the key that is told (MetaTrader 5 Help, Strategy
--- Tester: settings; form own).
+-- The settings of a document, or the first rule that it breaks with the key that is told (MetaTrader 5 Help,
+-- Strategy Tester: settings; form own).
 use Rattle.std.specs.Prelude.{◌≡◌, ◌⊎◌, ℕ, List, [], codes, Option, Some, None, pos, Result, Ok, Err, ⊤, false}
 use Rattle.toml.specs.Data.{Members, get_member}
 use Rattle.market_types.specs.declared.mode.Mode.TheVariants.{Ohlc}
@@ -35,7 +35,8 @@ run_in need document =
 -- the account's money: 10000.00 where nothing is said, and from 0.01 to 1000000000
 unfoldable pub funds_in : Members → Result Funds Broken
 funds_in document =
-    at_key (codes "deposit") (money_key (pos 1000000) (pos 1) 1000000000 (get_member (codes "deposit") document)) (λ deposit.
+    at_key (codes "deposit")
+    (money_key (pos 1000000) (pos 1) 1000000000 (get_member (codes "deposit") document)) (λ deposit.
     at_key (codes "currency") (currency_key (get_member (codes "currency") document)) (λ currency.
     at_key (codes "leverage") (whole_key 100 1 10000 (get_member (codes "leverage") document)) (λ leverage.
     at_key (codes "stop_out") (whole_key 50 0 100 (get_member (codes "stop_out") document)) (λ stop_out.
@@ -45,11 +46,13 @@ funds_in document =
 unfoldable pub bounds_in : Members → Result Bounds Broken
 bounds_in document =
     at_key (codes "steps") (whole_key 50000000 1 1000000000 (get_member (codes "steps") document)) (λ steps.
-    at_key (codes "rand_start") (whole_key 1 0 4294967295 (get_member (codes "rand_start") document)) (λ rand_start.
+    at_key (codes "rand_start")
+    (whole_key 1 0 4294967295 (get_member (codes "rand_start") document)) (λ rand_start.
     Ok (record { steps = steps; rand_start = rand_start })))
 
 -- settings of their parts
-abbrev pub of_parts : Run → Funds → Bounds → List Assignment → List InputRange → List SymbolSpec → SettingsFile
+abbrev pub of_parts :
+    Run → Funds → Bounds → List Assignment → List InputRange → List SymbolSpec → SettingsFile
 of_parts run funds bounds inputs optimise symbols =
     record {
       settings = record {
@@ -70,7 +73,7 @@ of_parts run funds bounds inputs optimise symbols =
       optimise = optimise;
     }
 
--- the settings of a document without unknown keys: the keys in their order, then the rules over all the symbols
+-- the settings of a document without unknown keys: the keys in their order, then the rules over all symbols
 unfoldable pub settings_in : Expert → Members → Result SettingsFile Broken
 settings_in need document =
     then_with (run_in need document) (λ run.
@@ -91,8 +94,8 @@ unless_unknown None settings = settings
 unfoldable pub settings_of : Expert → Members → Result SettingsFile Broken
 settings_of need document = unless_unknown (least (unknown_names document)) (settings_in need document)
 
--- what the bytes of a settings file are: the settings of their document, or a broken rule, which is rule 1 for bytes that
--- are no TOML
+-- what the bytes of a settings file are: the settings of their document, or a broken rule, which is rule 1 for
+-- bytes that are no TOML
 abbrev pub AreSettingsOf : Expert → List ℕ → Result SettingsFile Broken → Type 0
 AreSettingsOf need bytes answer =
     ((document : Members) × IsDocument bytes document × (answer ≡ settings_of need document))

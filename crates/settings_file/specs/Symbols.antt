@@ -1,4 +1,5 @@
--- The symbols of a settings file: their keys in order, and the rules over all of them (MQL5 Reference, Symbol Properties).
+-- The symbols of a settings file: their keys in order, and the rules over all of them (MQL5 Reference, Symbol
+-- Properties).
 use Rattle.std.specs.Prelude.{ℕ, ◌+◌, ◌%◌, Bool, true, false, not, ◌&&◌, ◌||◌, ◌==◌, nat_le, if◌then◌else◌, List, [], ◌∷◌, ◌++◌, length, Option, Some, None, ℤ, pos, neg_ℤ, int_le, unsigned_abs, codes, Result, Ok, Err}
 use Rattle.std.specs.Str.{bytes_eq}
 use Rattle.toml.specs.Data.{Data, Items, no_items, item, Members, get_member}
@@ -18,7 +19,8 @@ head_in prefix members =
     at_key (prefix ++ codes "name") (name_key (get_member (codes "name") members)) (λ name.
     at_key (prefix ++ codes "data") (text_key (get_member (codes "data") members)) (λ file.
     at_key (prefix ++ codes "digits") (whole_key 5 0 8 (get_member (codes "digits") members)) (λ digits.
-    at_key (prefix ++ codes "contract") (whole_key 100000 1 1000000 (get_member (codes "contract") members)) (λ contract.
+    at_key (prefix ++ codes "contract")
+    (whole_key 100000 1 1000000 (get_member (codes "contract") members)) (λ contract.
     Ok (record { name = name; file = file; digits = digits; contract = contract })))))
 
 -- a volume of a symbol
@@ -36,13 +38,25 @@ volumes_in prefix members =
 -- distances in points, and amounts in hundredths
 unfoldable pub costs_in : List ℕ → Members → Result Costs Broken
 costs_in prefix members =
-    at_key (prefix ++ codes "stops_level") (whole_key 0 0 1000000 (get_member (codes "stops_level") members)) (λ stops_level.
-    at_key (prefix ++ codes "spread") (whole_if_any 0 1000000 (get_member (codes "spread") members)) (λ spread.
-    at_key (prefix ++ codes "commission") (money_key (pos 0) (pos 0) 1000000 (get_member (codes "commission") members)) (λ commission.
-    at_key (prefix ++ codes "swap_long") (money_key (pos 0) (neg_ℤ (pos 100000000)) 1000000 (get_member (codes "swap_long") members)) (λ swap_long.
-    at_key (prefix ++ codes "swap_short") (money_key (pos 0) (neg_ℤ (pos 100000000)) 1000000 (get_member (codes "swap_short") members)) (λ swap_short.
+    at_key (prefix ++ codes "stops_level")
+    (whole_key 0 0 1000000 (get_member (codes "stops_level") members)) (λ stops_level.
+    at_key (prefix ++ codes "spread")
+    (whole_if_any 0 1000000 (get_member (codes "spread") members)) (λ spread.
+    at_key (prefix ++ codes "commission")
+    (money_key (pos 0) (pos 0) 1000000 (get_member (codes "commission") members)) (λ commission.
+    at_key (prefix ++ codes "swap_long")
+    (money_key (pos 0) (neg_ℤ (pos 100000000)) 1000000 (get_member (codes "swap_long") members)) (λ swap_long.
+    at_key (prefix ++ codes "swap_short")
+    (money_key (pos 0) (neg_ℤ (pos 100000000)) 1000000 (get_member (codes "swap_short") members)) (λ swap_short.
     at_key (prefix ++ codes "swap_day") (whole_key 3 0 6 (get_member (codes "swap_day") members)) (λ swap_day.
-    Ok (record { stops_level = stops_level; spread = spread; commission = commission; swap_long = swap_long; swap_short = swap_short; swap_day = swap_day })))))))
+    Ok (record {
+      stops_level = stops_level;
+      spread = spread;
+      commission = commission;
+      swap_long = swap_long;
+      swap_short = swap_short;
+      swap_day = swap_day;
+    })))))))
 
 abbrev pub spec_of : Head → Volumes → Costs → SymbolSpec
 spec_of head volumes costs =
@@ -81,7 +95,8 @@ symbols_from i (item d more) = then_with (symbol_of i d) (λ symbol. before symb
 
 -- what a document has under `symbol`
 abbrev pub symbols_in : Members → Result (List SymbolSpec) Broken
-symbols_in document = at_key (codes "symbol") (list_key (get_member (codes "symbol") document)) (symbols_from 0)
+symbols_in document =
+    at_key (codes "symbol") (list_key (get_member (codes "symbol") document)) (symbols_from 0)
 
 -- a test has one symbol
 abbrev pub is_number_of_symbols : ℕ → Bool
@@ -102,10 +117,12 @@ double_from i earlier (symbol ∷ more) =
 abbrev pub is_multiple : ℤ → ℤ → Bool
 is_multiple volume step = unsigned_abs volume % unsigned_abs step == 0
 
--- the key of a symbol whose volumes are at odds: a minimum above the maximum, or one of the two that is no multiple of the step
+-- the key of a symbol whose volumes are at odds: a minimum above the maximum, or one of the two that is no multiple
+-- of the step
 abbrev pub volumes_at_odds : SymbolSpec → Option (List ℕ)
 volumes_at_odds symbol =
-    if not (int_le symbol.volume_min symbol.volume_max) || not (is_multiple symbol.volume_min symbol.volume_step)
+    if not (int_le symbol.volume_min symbol.volume_max)
+    || not (is_multiple symbol.volume_min symbol.volume_step)
     then Some (codes "volume_min")
     else (if not (is_multiple symbol.volume_max symbol.volume_step) then Some (codes "volume_max") else None)
 
@@ -130,4 +147,6 @@ judged_names (Some i) symbols = Err (8, symbol_prefix i ++ codes "name")
 
 abbrev pub judged : List SymbolSpec → Result (List SymbolSpec) Broken
 judged symbols =
-    if is_number_of_symbols (length symbols) then judged_names (double_from 0 [] symbols) symbols else Err (7, [])
+    if is_number_of_symbols (length symbols)
+    then judged_names (double_from 0 [] symbols) symbols
+    else Err (7, [])

@@ -11,16 +11,25 @@ use Rattle.settings_file.specs.declared.unknown.Level.TheVariants.{Top, OfSymbol
 -- the keys at the top
 abbrev pub is_top : List ℕ → Bool
 is_top k =
-    (bytes_eq k (codes "expert") || (bytes_eq k (codes "mode") || (bytes_eq k (codes "period") || bytes_eq k (codes "account"))))
-    || ((bytes_eq k (codes "deposit") || (bytes_eq k (codes "currency") || (bytes_eq k (codes "leverage") || bytes_eq k (codes "stop_out"))))
-    || (bytes_eq k (codes "steps") || (bytes_eq k (codes "rand_start") || (bytes_eq k (codes "inputs") || (bytes_eq k (codes "optimise") || bytes_eq k (codes "symbol"))))))
+    (bytes_eq k (codes "expert")
+    || (bytes_eq k (codes "mode") || (bytes_eq k (codes "period") || bytes_eq k (codes "account"))))
+    || ((bytes_eq k (codes "deposit")
+    || (bytes_eq k (codes "currency") || (bytes_eq k (codes "leverage") || bytes_eq k (codes "stop_out"))))
+    || (bytes_eq k (codes "steps")
+    || (bytes_eq k (codes "rand_start")
+    || (bytes_eq k (codes "inputs") || (bytes_eq k (codes "optimise") || bytes_eq k (codes "symbol"))))))
 
 -- the keys of a symbol
 abbrev pub is_of_symbol : List ℕ → Bool
 is_of_symbol k =
-    (bytes_eq k (codes "name") || (bytes_eq k (codes "data") || (bytes_eq k (codes "digits") || bytes_eq k (codes "contract"))))
-    || ((bytes_eq k (codes "volume_min") || (bytes_eq k (codes "volume_max") || (bytes_eq k (codes "volume_step") || bytes_eq k (codes "stops_level"))))
-    || (bytes_eq k (codes "spread") || (bytes_eq k (codes "commission") || (bytes_eq k (codes "swap_long") || (bytes_eq k (codes "swap_short") || bytes_eq k (codes "swap_day"))))))
+    (bytes_eq k (codes "name")
+    || (bytes_eq k (codes "data") || (bytes_eq k (codes "digits") || bytes_eq k (codes "contract"))))
+    || ((bytes_eq k (codes "volume_min")
+    || (bytes_eq k (codes "volume_max")
+    || (bytes_eq k (codes "volume_step") || bytes_eq k (codes "stops_level"))))
+    || (bytes_eq k (codes "spread")
+    || (bytes_eq k (codes "commission")
+    || (bytes_eq k (codes "swap_long") || (bytes_eq k (codes "swap_short") || bytes_eq k (codes "swap_day"))))))
 
 -- the keys of a range
 abbrev pub is_of_range : List ℕ → Bool
@@ -45,7 +54,8 @@ unknown_of level prefix other = []
 -- the unknown keys of the symbols from the i-th on
 unfoldable pub unknown_in_symbols : ℕ → Items → List (List ℕ)
 unknown_in_symbols i no_items = []
-unknown_in_symbols i (item d more) = unknown_of OfSymbol (symbol_prefix i) d ++ unknown_in_symbols (i + 1) more
+unknown_in_symbols i (item d more) =
+    unknown_of OfSymbol (symbol_prefix i) d ++ unknown_in_symbols (i + 1) more
 
 abbrev pub unknown_under_symbol : Option Data → List (List ℕ)
 unknown_under_symbol (Some (array items)) = unknown_in_symbols 0 items

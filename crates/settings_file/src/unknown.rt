@@ -128,7 +128,8 @@ fn push_unknown_under_symbol(
     names: &mut ItemList<Text8>,
     value: Option<&Value>,
 ) -> Result<(), OutOfMemory>
-    ensures { OnOk result (names.new ≡ names.old ++ unknown_under_symbol (option_map (λ v. view v.now) value.entry)) }
+    ensures { OnOk result
+        (names.new ≡ names.old ++ unknown_under_symbol (option_map (λ v. view v.now) value.entry)) }
 {
     match value {
         Some(value) => match value.as_array() {
@@ -145,7 +146,8 @@ fn push_unknown_under_optimise(
     names: &mut ItemList<Text8>,
     value: Option<&Value>,
 ) -> Result<(), OutOfMemory>
-    ensures { OnOk result (names.new ≡ names.old ++ unknown_under_optimise (option_map (λ v. view v.now) value.entry)) }
+    ensures { OnOk result
+        (names.new ≡ names.old ++ unknown_under_optimise (option_map (λ v. view v.now) value.entry)) }
 {
     match value {
         Some(value) => match value.as_table() {
