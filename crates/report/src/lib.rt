@@ -1,0 +1,8 @@
+//! The texts of reports.
+#![tactic(auto)]
+
+mod quote;
+mod time;
+
+pub use quote::push_quote_line;
+pub use time::{END_OF_TIMES, push_time};

@@ -1,0 +1,56 @@
+//! The lines of quotes.
+ghost use Rattle.std.specs.Prelude.{◌≡◌, [], ◌∷◌, ◌++◌, OnOk};
+ghost use Rattle.report.specs.Pieces.{Appends};
+ghost use Rattle.report.specs.Times.{IsReportTime};
+ghost use Rattle.report.specs.Quotes.{loudness, prices_text, IsQuoteLine};
+
+use crate::time::push_time;
+use fx8::{OutOfMemory, Text8};
+use market_types::Quote;
+
+fn loudness(loud: bool) -> &'static str
+    ensures { result.now ≡ loudness loud }
+{
+    if loud { "loud" } else { "silent" }
+}
+
+#[tactic(auto, unfolding(crate::specs::Quotes::prices_text))]
+fn push_prices(text: &mut Text8, quote: &Quote) -> Result<(), OutOfMemory>
+    ensures { OnOk result (text.new ≡ text.old ++ prices_text quote.now) }
+{
+    text.push(b' ')?;
+    quote.bid.print(text)?;
+    text.push(b' ')?;
+    quote.ask.print(text)?;
+    text.push(b' ')?;
+    quote.last.print(text)?;
+    text.push(b' ')?;
+    quote.volume.print(text)
+}
+
+fn push_name(text: &mut Text8, name: &[u8]) -> Result<(), OutOfMemory>
+    ensures { OnOk result (text.new ≡ text.old ++ 32 ∷ name.now) }
+{
+    text.push(b' ')?;
+    text.extend_from_slice(name)
+}
+
+fn push_loudness(text: &mut Text8, loud: bool) -> Result<(), OutOfMemory>
+    ensures { OnOk result (text.new ≡ text.old ++ (32 ∷ loudness loud ++ 10 ∷ [])) }
+{
+    text.push(b' ')?;
+    text.extend_from_slice(loudness(loud).as_bytes())?;
+    text.push(b'\n')
+}
+
+/// Adds the line of a quote of the symbol of that name, as
+/// `2020.01.02 10:00:00.100 EURUSD 1.1 1.1002 0.0 0.0 loud`. It asks for a time of the years 1970 to 2999.
+pub fn push_quote_line(text: &mut Text8, name: &[u8], quote: &Quote) -> Result<(), OutOfMemory>
+    requires { IsReportTime quote.now.time_ms }
+    ensures { OnOk result (Appends (IsQuoteLine name.now quote.now) text.old text.new) }
+{
+    push_time(text, quote.time_ms)?;
+    push_name(text, name)?;
+    push_prices(text, quote)?;
+    push_loudness(text, quote.loud)
+}
