@@ -3,12 +3,14 @@
 
 mod error;
 mod host;
+mod shared;
 mod store;
 mod tree;
 mod value;
 
 pub use error::{ErrorKind, RunError};
 pub use host::{Host, HostCall, HostEnd, Reply};
+pub use shared::meanings_may_be_shared;
 pub use store::{Frame, Store};
 pub use tree::{Checked, Entry, Expression, Function, Native, Operator, Statement, UnaryOperator};
 pub use value::{Value, ValueList};

@@ -9,6 +9,7 @@ mod frames;
 mod machine;
 mod operands;
 mod program;
+mod shared;
 mod state;
 mod step;
 
@@ -16,3 +17,4 @@ pub use code::{Code, Constant, Effect, Entries, FunctionCode, Instruction, Label
 pub use machine::{End, Machine};
 pub use mql_mean::Entry;
 pub use program::{Program, Valid};
+pub use shared::programs_may_be_shared;
