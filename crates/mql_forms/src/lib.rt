@@ -3,4 +3,4 @@
 
 mod form;
 
-pub use form::Form;
+pub use form::{Form, numbers_are_distinct};

@@ -1,7 +1,7 @@
 -- Only the numbers of forms have a first dot.
-use Rattle.std.proofs.Common.{◌≡◌, ℕ, zero, suc, ◌<◌, ◌≤◌, Bool, true, false, ◌&&◌, nat_lt, List, [], ◌∷◌, length, refl, sym, ap, ◌∙◌, subst, ◌⊎◌, inl, inr, arith}
-use Rattle.mql_grammar.specs.Forms.{of_class, of_form, wrapped}
-use Rattle.mql_grammar.specs.Table.{number_at, is_lead}
+use Rattle.std.proofs.Common.{◌≡◌, ℕ, zero, suc, ◌<◌, ◌≤◌, Bool, true, false, ◌&&◌, nat_lt, List, [], ◌∷◌, length, refl, sym, ap, ◌∙◌, ◌⊎◌, inl, inr, arith}
+use Rattle.mql_grammar.specs.Forms.{of_class, wrapped}
+use Rattle.mql_grammar.specs.Table.{number_at}
 use Rattle.mql_grammar.specs.Dots.{mql_table}
 use Rattle.mql_grammar.specs.Rules.{dot_next, dot_path, form_start, class_wrapper}
 use Rattle.mql_grammar.proofs.Lookups.{rules_lawful}
@@ -9,7 +9,7 @@ use Rattle.mql_grammar.specs.declared.lookup.Opening.TheVariants.{Node}
 use Rattle.mql_grammar.specs.declared.token_class.Class.{Class}
 use Rattle.mql_parse.specs.declared.frame.Frame.{Frame}
 use Rattle.mql_parse.specs.View.{over}
-use Rattle.mql_parse.specs.Opened.{takes_at, seen, frame_spine, IsOpening, Sound, wraps_behind}
+use Rattle.mql_parse.specs.Opened.{takes_at, seen, frame_spine, IsOpening, Sound}
 
 beyond : (xs : List ℕ) (n : ℕ) → length xs ≤ n → number_at xs n ≡ 0
 beyond [] n h = refl
@@ -66,7 +66,7 @@ wrapped_form ts f c sound h = elim (zero_or (form_start (class_wrapper c))) [
   | inl z ↦
       let dead = (rules_lawful (λ k. k)).dead in
       let none : dot_next (dot_next (form_start (class_wrapper c)) (seen f.last)) (of_class c) ≡ 0 =
-          ap (λ (d : ℕ). dot_next (dot_next d (seen f.last)) (of_class c)) z ∙ ap (λ (d : ℕ). dot_next d (of_class c)) (dead (seen f.last)) ∙ dead (of_class c) in
+      ap (λ (d : ℕ). dot_next (dot_next d (seen f.last)) (of_class c)) z ∙ ap (λ (d : ℕ). dot_next d (of_class c)) (dead (seen f.last)) ∙ dead (of_class c) in
       absurd (below_zero _ none (and_right _ _ (sym (sound.wraps c) ∙ h)))
   | inr l ↦ l
 ]

@@ -21,7 +21,7 @@ fn each_sign_has_its_number(rt: HostRuntime) -> Result<(), Fail> {
     let tokens = tokens_of(rt.alloc(), SIGNS)??;
     assert_eq!(rt; tokens.len(), 46);
     for (number, pair) in tokens.as_slice().iter().enumerate() {
-        assert!(rt; matches!(&pair.0, Token::Sign(sign) if usize::from(*sign) == number));
+        assert!(rt; matches!(&pair.0, Token::Sign(sign) if usize::from(sign.number()) == number));
         assert_eq!(rt; pair.1.file, 3);
         assert_eq!(rt; pair.1.line, 1);
     }
