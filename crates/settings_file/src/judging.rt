@@ -1,5 +1,5 @@
 //! The rules over all the symbols.
-ghost use Rattle.std.specs.Prelude.{◌≡◌, ◌<ℤ◌, pos, [], ◌++◌, option_map, All, IfOk, None};
+ghost use Rattle.std.specs.Prelude.{◌≡◌, ◌<ℤ◌, pos, [], ◌++◌, option_map, length, All, IfOk, IsTrue, None};
 ghost use Rattle.market_types.specs.Ranges.{IsSpec};
 ghost use Rattle.settings_file.specs.Symbols.{is_number_of_symbols, has_name, double_from, is_multiple, volumes_at_odds, odd_volumes_from, judged};
 ghost use Rattle.settings_file.specs.Faults.{IsAnswer, Tells};
@@ -13,7 +13,8 @@ use market_types::{Specs, SymbolSpec};
 use std::alloc::Global;
 
 fn is_number_of_symbols(n: u64) -> bool
-    ensures { result ≡ is_number_of_symbols n }
+    ensures value { result ≡ is_number_of_symbols n }
+    ensures one { IsTrue result → n ≡ 1 }
 {
     1 <= n && n <= 1
 }
@@ -100,6 +101,7 @@ pub(crate) fn judged(alloc: Global, symbols: Specs) -> Result<Specs, SettingsFau
     requires { All SymbolIsInRange symbols }
     ensures value { IsAnswer (judged symbols) result }
     ensures range { IfOk result (All IsSpec) }
+    ensures one { IfOk result (λ specs. length specs ≡ 1) }
 {
     if !is_number_of_symbols(symbols.len()) {
         let key = ItemList::new(alloc);

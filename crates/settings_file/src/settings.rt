@@ -1,5 +1,5 @@
 //! The settings.
-ghost use Rattle.std.specs.Prelude.{◌≡◌, IfOk, All};
+ghost use Rattle.std.specs.Prelude.{◌≡◌, length, IfOk};
 ghost use Rattle.std.specs.Option.{option_copied};
 ghost use Rattle.toml.specs.View.{table_view};
 ghost use Rattle.market_types.specs.Ranges.{IsSpec};
@@ -184,6 +184,7 @@ fn of_parts(
 fn settings_in(alloc: Global, need: Expert, document: &Table) -> Result<SettingsFile, SettingsFault>
     ensures value { IsAnswer (settings_in need (table_view document.now)) result }
     ensures range { IfOk result (λ file. AreSettings file.settings) }
+    ensures one { IfOk result (λ file. length file.settings.symbols ≡ 1) }
 {
     let run = match run_in(alloc, need, document) {
         Ok(run) => run,
@@ -221,6 +222,7 @@ fn settings_in(alloc: Global, need: Expert, document: &Table) -> Result<Settings
 fn settings_of(alloc: Global, need: Expert, document: &Table) -> Result<SettingsFile, SettingsFault>
     ensures value { IsAnswer (settings_of need (table_view document.now)) result }
     ensures range { IfOk result (λ file. AreSettings file.settings) }
+    ensures one { IfOk result (λ file. length file.settings.symbols ≡ 1) }
 {
     match first_unknown(alloc, document)? {
         Some(key) => Err(SettingsFault::Rule { rule: 2, key }),
@@ -241,6 +243,7 @@ pub fn read_settings(
 ) -> Result<SettingsFile, SettingsFault>
     ensures exact { Answers need bytes.now result }
     ensures range { IfOk result (λ file. AreSettings file.settings) }
+    ensures one { IfOk result (λ file. length file.settings.symbols ≡ 1) }
 {
     match toml::table_from_slice(alloc, bytes) {
         Ok(document) => settings_of(alloc, need, &document),
