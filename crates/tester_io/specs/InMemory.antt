@@ -1,12 +1,12 @@
 -- What is seen of the files and the sinks in memory.
-use Rattle.std.specs.Prelude.{ℕ, min, List, length, Result, Err, if◌then◌else◌}
+use Rattle.std.specs.Prelude.{ℕ, min, List, length, Option, Some, Result, Err, if◌then◌else◌}
 use Rattle.tester_io.specs.declared.fault.FileFault.{FileFault}
 use Rattle.tester_io.specs.declared.fault.FileFault.TheVariants.{Failed}
 use Rattle.tester_io.specs.declared.memory.MemFiles.{MemFiles}
 use Rattle.tester_io.specs.declared.memory_sink.MemSink.{MemSink}
 use Rattle.tester_io.specs.declared.calm.CalmFiles.{CalmFiles}
 use Rattle.tester_io.specs.declared.calm.CalmSink.{CalmSink}
-use Rattle.tester_io.specs.Outside.{Contents}
+use Rattle.tester_io.specs.Outside.{Contents, FilesSeen, SinkSeen}
 use Rattle.tester_io.specs.Memory.{held_in, reading, is_to_fail}
 
 -- what the names hold (own)
@@ -42,6 +42,16 @@ absent_reads files = files.shelf.absents
 abbrev pub oversized_reads : MemFiles → ℕ
 oversized_reads files = files.shelf.oversizes
 
+-- what is seen of them (own)
+abbrev pub seen_of : MemFiles → FilesSeen
+seen_of files = record {
+  told = Some (contents files);
+  absents = absent_reads files;
+  read_faults = failed_reads files;
+  oversizes = oversized_reads files;
+  write_faults = failed_writes files;
+}
+
 -- what the sink has (own)
 abbrev pub written : MemSink → List ℕ
 written sink = sink.bytes
@@ -57,6 +67,10 @@ writes_to_fail sink = sink.turns.fails
 -- how many writings failed (own)
 abbrev pub sink_failures : MemSink → ℕ
 sink_failures sink = sink.write_faults
+
+-- what is seen of it (own)
+abbrev pub sink_seen_of : MemSink → SinkSeen
+sink_seen_of sink = record { told = Some (written sink); write_faults = sink_failures sink }
 
 -- how much of a piece a sink in memory takes at once: 64 bytes at most (own)
 abbrev pub taken : List ℕ → ℕ
@@ -74,6 +88,20 @@ calm_absents files = files.shelf.absents
 abbrev pub calm_oversizes : CalmFiles → ℕ
 calm_oversizes files = files.shelf.oversizes
 
+-- what is seen of them (own)
+abbrev pub calm_seen_of : CalmFiles → FilesSeen
+calm_seen_of files = record {
+  told = Some (calm_contents files);
+  absents = calm_absents files;
+  read_faults = 0;
+  oversizes = calm_oversizes files;
+  write_faults = 0;
+}
+
 -- what a sink that does not fail has (own)
 abbrev pub calm_written : CalmSink → List ℕ
 calm_written sink = sink.bytes
+
+-- what is seen of it (own)
+abbrev pub calm_sink_seen_of : CalmSink → SinkSeen
+calm_sink_seen_of sink = record { told = Some (calm_written sink); write_faults = 0 }

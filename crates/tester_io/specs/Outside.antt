@@ -5,6 +5,20 @@ use Rattle.std.specs.Prelude.{◌≡◌, ℕ, ◌+◌, ◌-◌, ◌^◌, ◌≤�
 abbrev pub Contents : Type 0
 Contents = List ℕ → Option (List ℕ)
 
+-- What is seen of files: what each name holds, where it is told; how many readings asked for a name that is not
+-- held, failed, or found more bytes than they take; how many writings failed (own)
+pub record FilesSeen : Type 0 where
+  pub told : Option Contents
+  pub absents : ℕ
+  pub read_faults : ℕ
+  pub oversizes : ℕ
+  pub write_faults : ℕ
+
+-- What is seen of a sink: what was written, where it is told, and how many writings failed (own)
+pub record SinkSeen : Type 0 where
+  pub told : Option (List ℕ)
+  pub write_faults : ℕ
+
 -- no name holds anything (own)
 abbrev pub empty : Contents
 empty = λ _. None

@@ -3,7 +3,7 @@ ghost use Rattle.std.specs.Prelude.{◌≡◌, ℕ, ◌<◌, ◌≤◌, ◌++◌
 ghost use Rattle.std.specs.Option.{option_copied};
 ghost use Rattle.tester_io.specs.Outside.{holding, empty, CutShort, WhereTold, Counts, AtMostOnce};
 ghost use Rattle.tester_io.specs.Memory.{reading, Gives};
-ghost use Rattle.tester_io.specs.InMemory.{calm_contents, calm_absents, calm_oversizes, calm_written, taken};
+ghost use Rattle.tester_io.specs.InMemory.{calm_seen_of, calm_sink_seen_of, calm_contents, calm_absents, calm_oversizes, calm_written, taken};
 
 use crate::memory_sink::accept;
 use crate::shelf::Shelf;
@@ -48,15 +48,7 @@ impl CalmFiles {
 }
 
 impl Files for CalmFiles {
-    ghost told = { λ files. Some (calm_contents files) };
-
-    ghost read_faults = { λ _. 0 };
-
-    ghost absents = { calm_absents };
-
-    ghost oversizes = { calm_oversizes };
-
-    ghost write_faults = { λ _. 0 };
+    ghost seen = { calm_seen_of };
 
     fn read_all(&mut self, name: &Text8, limit: u64) -> Result<Text8, FileFault>
         ensures told_stays { calm_contents self.new ≡ calm_contents self.old }
@@ -108,9 +100,7 @@ impl CalmSink {
 }
 
 impl Sink for CalmSink {
-    ghost told = { λ sink. Some (calm_written sink) };
-
-    ghost write_faults = { λ _. 0 };
+    ghost seen = { calm_sink_seen_of };
 
     fn write(&mut self, piece: &[u8]) -> Result<usize, WriteError>
         ensures count { IfOk result (λ k. k ≡ taken piece.now) }

@@ -68,10 +68,10 @@ pub struct DiskFiles<R> {
 impl<R: FileSystem> DiskFiles<R> {
     /// The files that the runtime reaches, with all counts 0.
     pub fn new(runtime: R, alloc: Global) -> DiskFiles<R>
-        ensures read_faults { ⟦<DiskFiles<R> as Files>⟧.read_faults result ≡ 0 }
-        ensures absents { ⟦<DiskFiles<R> as Files>⟧.absents result ≡ 0 }
-        ensures oversizes { ⟦<DiskFiles<R> as Files>⟧.oversizes result ≡ 0 }
-        ensures write_faults { ⟦<DiskFiles<R> as Files>⟧.write_faults result ≡ 0 }
+        ensures read_faults { (⟦<DiskFiles<R> as Files>⟧.seen result).read_faults ≡ 0 }
+        ensures absents { (⟦<DiskFiles<R> as Files>⟧.seen result).absents ≡ 0 }
+        ensures oversizes { (⟦<DiskFiles<R> as Files>⟧.seen result).oversizes ≡ 0 }
+        ensures write_faults { (⟦<DiskFiles<R> as Files>⟧.seen result).write_faults ≡ 0 }
     {
         DiskFiles {
             runtime,
@@ -105,15 +105,13 @@ impl<R: FileSystem> DiskFiles<R> {
 }
 
 impl<R: FileSystem> Files for DiskFiles<R> {
-    ghost told = { λ _. None };
-
-    ghost read_faults = { λ files. files.read_faults };
-
-    ghost absents = { λ files. files.absents };
-
-    ghost oversizes = { λ files. files.oversizes };
-
-    ghost write_faults = { λ files. files.write_faults };
+    ghost seen = { λ files. record {
+        told = None;
+        absents = files.absents;
+        read_faults = files.read_faults;
+        oversizes = files.oversizes;
+        write_faults = files.write_faults;
+    } };
 
     fn read_all(&mut self, name: &Text8, limit: u64) -> Result<Text8, FileFault> {
         let read = self.open_and_read(name, limit);
@@ -145,7 +143,7 @@ pub struct OutSink<R> {
 impl<R: Print> OutSink<R> {
     /// The runtime's standard output, with its count 0.
     pub fn new(runtime: R) -> OutSink<R>
-        ensures { ⟦<OutSink<R> as Sink>⟧.write_faults result ≡ 0 }
+        ensures { (⟦<OutSink<R> as Sink>⟧.seen result).write_faults ≡ 0 }
     {
         OutSink {
             runtime,
@@ -167,9 +165,7 @@ impl<R: Print> OutSink<R> {
 }
 
 impl<R: Print> Sink for OutSink<R> {
-    ghost told = { λ _. None };
-
-    ghost write_faults = { λ sink. sink.write_faults };
+    ghost seen = { λ sink. record { told = None; write_faults = sink.write_faults } };
 
     fn write(&mut self, piece: &[u8]) -> Result<usize, WriteError> {
         let wrote = self.write_some(piece);

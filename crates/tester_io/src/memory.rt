@@ -3,7 +3,7 @@ ghost use Rattle.std.specs.Prelude.{◌≡◌, ℕ, ◌+◌, ◌-◌, ◌^◌, �
 ghost use Rattle.std.specs.Option.{option_copied};
 ghost use Rattle.tester_io.specs.Outside.{holding, empty, CutShort, WhereTold, Counts, AtMostOnce};
 ghost use Rattle.tester_io.specs.Memory.{is_to_fail, Gives};
-ghost use Rattle.tester_io.specs.InMemory.{contents, calls_made, calls_to_fail, wanted, failed_reads, failed_writes, absent_reads, oversized_reads};
+ghost use Rattle.tester_io.specs.InMemory.{seen_of, contents, calls_made, calls_to_fail, wanted, failed_reads, failed_writes, absent_reads, oversized_reads};
 
 use crate::shelf::{Shelf, Turns};
 use crate::{FileFault, Files, WriteError};
@@ -62,15 +62,7 @@ impl MemFiles {
 }
 
 impl Files for MemFiles {
-    ghost told = { λ files. Some (contents files) };
-
-    ghost read_faults = { failed_reads };
-
-    ghost absents = { absent_reads };
-
-    ghost oversizes = { oversized_reads };
-
-    ghost write_faults = { failed_writes };
+    ghost seen = { seen_of };
 
     fn read_all(&mut self, name: &Text8, limit: u64) -> Result<Text8, FileFault>
         ensures told_stays { contents self.new ≡ contents self.old }

@@ -2,7 +2,7 @@
 ghost use Rattle.std.specs.Prelude.{◌≡◌, ℕ, ◌+◌, ◌-◌, ◌^◌, ◌<◌, ◌≤◌, min, ◌++◌, [], List, length, take, Option, Some, OnOk, OnErr, IfOk, IsErrOf, IsTrue, ◌↔◌};
 ghost use Rattle.tester_io.specs.Outside.{WhereTold, Counts, AtMostOnce};
 ghost use Rattle.tester_io.specs.Memory.{is_to_fail};
-ghost use Rattle.tester_io.specs.InMemory.{written, writes_made, writes_to_fail, sink_failures, taken};
+ghost use Rattle.tester_io.specs.InMemory.{sink_seen_of, written, writes_made, writes_to_fail, sink_failures, taken};
 
 use crate::shelf::Turns;
 use crate::{Sink, WriteError};
@@ -56,9 +56,7 @@ impl MemSink {
 }
 
 impl Sink for MemSink {
-    ghost told = { λ sink. Some (written sink) };
-
-    ghost write_faults = { sink_failures };
+    ghost seen = { sink_seen_of };
 
     fn write(&mut self, piece: &[u8]) -> Result<usize, WriteError>
         ensures count { IfOk result (λ k. k ≡ taken piece.now) }
