@@ -1,13 +1,13 @@
 -- How the answers of a plan's parts make the answer of the whole.
-use Rattle.std.proofs.Common.{◌≡◌, inl, inr, ℕ, ◌<◌, ◌≤◌, Bool, true, false, nat_lt, ⊎_elim, List, [], length, Option, Some, None, refl, sym, subst, arith}
+use Rattle.std.proofs.Common.{◌≡◌, inl, inr, ℕ, ◌<◌, ◌≤◌, Bool, true, false, nat_lt, ⊎_elim, List, [], length, Option, Some, None, refl, sym, subst, arith, ◌∙◌}
 use Rattle.std.specs.Prelude.{IsSomeAnd}
 use Rattle.std.specs.Bool.{MatchBool}
 use Rattle.std.proofs.lemmas.Bool.{lt-ltb, le-ltb}
-use Rattle.tester_io.specs.Outside.{Contents, Rose}
+use Rattle.tester_io.specs.Outside.{Contents, FilesSeen, Rose}
 use Rattle.tester_answer.specs.declared.status.Status.{Status}
 use Rattle.tester_answer.specs.declared.status.Status.TheVariants.{Done, Usage, Source, Settings, Prices, CodeFile, Grid, Absent, ReadFault, WriteFault, TooLarge, OutOfMemory}
 use Rattle.tester_answer.specs.Answer.{Plan, Reads, Finds, Ends, AfterReading, Gives, Reaches, ReachesAfter, refusal}
-use Rattle.tester_answer.specs.Clauses.{ReadCounts, NoneFell, IsReading, ReadingRefused, Refused, Never}
+use Rattle.tester_answer.specs.Clauses.{OnlyRead, IsReading, ReadingRefused, Refused, Never}
 
 rose_later : (before mid now : ℕ) → before ≤ mid → Rose mid now → Rose before now
 rose_later before mid now le rose = omega arith
@@ -90,26 +90,42 @@ leads_both_find A is next rest told each = record {
   reaches = λ held i wanted (a, h, r). (a, h, (each a).reaches held i wanted r);
 }
 
-pub none_fell_on : (a b c : ReadCounts) → NoneFell a b → NoneFell b c → NoneFell a c
-none_fell_on a b c p q = record { absents = omega (arith, p.absents, q.absents); read_faults = omega (arith, p.read_faults, q.read_faults); oversizes = omega (arith, p.oversizes, q.oversizes) }
+pub only_read_on : (a b c : FilesSeen) → OnlyRead a b → OnlyRead b c → OnlyRead a c
+only_read_on a b c p q = record {
+  told = q.told ∙ p.told;
+  absents = omega (arith, p.absents, q.absents);
+  read_faults = omega (arith, p.read_faults, q.read_faults);
+  oversizes = omega (arith, p.oversizes, q.oversizes);
+  write_faults = q.write_faults ∙ p.write_faults;
+}
+
+pub only_read_same : (a : FilesSeen) → OnlyRead a a
+only_read_same a = record {
+  told = refl;
+  absents = omega arith;
+  read_faults = omega arith;
+  oversizes = omega arith;
+  write_faults = refl;
+}
 
 -- a refusal of the rest is one of the whole
-pub refused_on : (usage : ℕ → Type 0) (whole rest : Plan) (told : Option Contents) (before mid now : ReadCounts) (status : Status) → Leads whole rest told → NoneFell before mid → Refused Never rest told mid now status → Refused usage whole told before now status
-refused_on usage whole rest told before mid now (Absent which) l n (rose, h) = (rose_later _ _ _ n.absents rose, λ held is. l.gives held is _ _ _ (h held is))
-refused_on usage whole rest told before mid now (ReadFault which) l n (rose, h) = (rose_later _ _ _ n.read_faults rose, λ held is. l.reaches held is which (h held is))
-refused_on usage whole rest told before mid now (TooLarge which) l n (rose, h) = (rose_later _ _ _ n.oversizes rose, λ held is. l.gives held is _ _ _ (h held is))
-refused_on usage whole rest told before mid now OutOfMemory l n h = tt
-refused_on usage whole rest told before mid now Done l n h = absurd h
-refused_on usage whole rest told before mid now (Usage rule) l n h = absurd h
-refused_on usage whole rest told before mid now (Source fault) l n h = λ held is. l.gives held is _ _ _ (h held is)
-refused_on usage whole rest told before mid now (Settings rule key) l n h = λ held is. l.gives held is _ _ _ (h held is)
-refused_on usage whole rest told before mid now (Prices file row rule) l n h = λ held is. l.gives held is _ _ _ (h held is)
-refused_on usage whole rest told before mid now (CodeFile rule place) l n h = λ held is. l.gives held is _ _ _ (h held is)
-refused_on usage whole rest told before mid now (Grid rule input) l n h = λ held is. l.gives held is _ _ _ (h held is)
-refused_on usage whole rest told before mid now WriteFault l n h = absurd h
+module _ (usage : ℕ → Type 0) (whole rest : Plan) (before mid now : FilesSeen) where
+  pub refused_on : (status : Status) → Leads whole rest before.told → OnlyRead before mid → Refused Never rest mid now status → Refused usage whole before now status
+  refused_on (Absent which) l n (rose, h) = (rose_later _ _ _ n.absents rose, λ held is. l.gives held is _ _ _ (h held (n.told ∙ is)))
+  refused_on (ReadFault which) l n (rose, h) = (rose_later _ _ _ n.read_faults rose, λ held is. l.reaches held is which (h held (n.told ∙ is)))
+  refused_on (TooLarge which) l n (rose, h) = (rose_later _ _ _ n.oversizes rose, λ held is. l.gives held is _ _ _ (h held (n.told ∙ is)))
+  refused_on OutOfMemory l n h = tt
+  refused_on Done l n h = absurd h
+  refused_on (Usage rule) l n h = absurd h
+  refused_on (Source fault) l n h = λ held is. l.gives held is _ _ _ (h held (n.told ∙ is))
+  refused_on (Settings rule key) l n h = λ held is. l.gives held is _ _ _ (h held (n.told ∙ is))
+  refused_on (Prices file row rule) l n h = λ held is. l.gives held is _ _ _ (h held (n.told ∙ is))
+  refused_on (CodeFile rule place) l n h = λ held is. l.gives held is _ _ _ (h held (n.told ∙ is))
+  refused_on (Grid rule input) l n h = λ held is. l.gives held is _ _ _ (h held (n.told ∙ is))
+  refused_on WriteFault l n h = absurd h
 
-module _ (usage : ℕ → Type 0) (name : List ℕ) (limit : ℕ) (next : List ℕ → Plan) (told : Option Contents) where
-  pub refused_here : (before now : ReadCounts) (status : Status) → ReadingRefused name limit told before now status → Refused usage (Reads name limit next) told before now status
+module _ (usage : ℕ → Type 0) (name : List ℕ) (limit : ℕ) (next : List ℕ → Plan) where
+  pub refused_here : (before now : FilesSeen) (status : Status) → ReadingRefused name limit before now status → Refused usage (Reads name limit next) before now status
   refused_here before now (Absent which) (e, rose, none) =
       (rose, λ held is. subst (λ n. Gives (Reads name limit next) held (Absent n) [] held) (sym e) (absent_given name limit next held (none held is)))
   refused_here before now (ReadFault which) (e, rose) = (rose, λ held is. inl (sym e))

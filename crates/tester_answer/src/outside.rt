@@ -1,7 +1,7 @@
 //! Reading and writing, with the status that each fault gives.
 ghost use Rattle.std.specs.Prelude.{◌≡◌, ◌++◌, ◌≤◌, length, take, drop, Some, ℕ, IfOk, IfErr, OnOk, OnErr, IsErrOf, MatchResult};
 ghost use Rattle.tester_io.specs.Outside.{WhereTold, Rose};
-ghost use Rattle.tester_answer.specs.Clauses.{counts, NoneFell, IsReading, ReadingRefused};
+ghost use Rattle.tester_answer.specs.Clauses.{OnlyRead, IsReading, Gained, ReadingRefused};
 ghost use Rattle.tester_answer.specs.Clauses.{FaultStatus};
 
 use crate::status::Status;
@@ -31,13 +31,9 @@ pub fn read<F: Files>(
     name: &Text8,
     limit: u64,
 ) -> Result<Text8, Status>
-    ensures same { F.told files.new ≡ F.told files.old }
-    ensures none_fell { NoneFell (counts (F.absents files.old) (F.read_faults files.old) (F.oversizes files.old))
-        (counts (F.absents files.new) (F.read_faults files.new) (F.oversizes files.new)) }
-    ensures read { IfOk result (IsReading name.now limit (F.told files.old)) }
-    ensures refused { IfErr result (ReadingRefused name.now limit (F.told files.old)
-        (counts (F.absents files.old) (F.read_faults files.old) (F.oversizes files.old))
-        (counts (F.absents files.new) (F.read_faults files.new) (F.oversizes files.new))) }
+    ensures only_read { OnlyRead (F.seen files.old) (F.seen files.new) }
+    ensures read { IfOk result (IsReading name.now limit (F.seen files.old).told) }
+    ensures refused { IfErr result (ReadingRefused name.now limit (F.seen files.old) (F.seen files.new)) }
 {
     match files.read_all(name, limit) {
         Ok(bytes) => Ok(bytes),
@@ -47,9 +43,9 @@ pub fn read<F: Files>(
 
 /// Writes a text to its end.
 pub fn write_whole<S: Sink>(out: &mut S, text: &[u8]) -> Result<(), WriteError>
-    ensures ok { OnOk result (WhereTold (S.told out.old) (λ before. S.told out.new ≡ Some (before ++ text.now))) }
-    ensures err { OnErr result (WhereTold (S.told out.old) (λ before. (k : ℕ) × (S.told out.new ≡ Some (before ++ take k text.now)))) }
-    ensures failed { IsErrOf result WriteError.Failed → Rose (S.write_faults out.old) (S.write_faults out.new) }
+    ensures ok { OnOk result (Gained text.now (S.seen out.old) (S.seen out.new)) }
+    ensures err { OnErr result ((k : ℕ) × Gained (take k text.now) (S.seen out.old) (S.seen out.new)) }
+    ensures failed { IsErrOf result WriteError.Failed → Rose (S.seen out.old).write_faults (S.seen out.new).write_faults }
 {
     let mut place = 0;
     while place < text.len() {

@@ -1,12 +1,12 @@
-use Rattle.std.proofs.Common.{◌≡◌, ◌≤◌, ◌-◌, ◌++◌, length, take, Some}
-use Rattle.tester_io.specs.Outside.{WhereTold}
+use Rattle.std.proofs.Common.{◌≤◌, ◌-◌, length, take}
+use Rattle.tester_answer.specs.Clauses.{Gained}
 use Rattle.tester_answer.proofs.outside.write_whole.Given as goal
 
 abbrev pub invariant-loop-place : goal.invariant-loop-place
 invariant-loop-place g l = record {
   within : l.place ≤ length l.text;
-  written : WhereTold (g.S.Sink.told l.fn.out) (λ before. g.S.Sink.told l.out ≡ Some (before ++ take l.place l.text));
-  counted : g.S.Sink.write_faults l.fn.out ≤ g.S.Sink.write_faults l.out;
+  written : Gained (take l.place l.text) (g.S.Sink.seen l.fn.out) (g.S.Sink.seen l.out);
+  counted : (g.S.Sink.seen l.fn.out).write_faults ≤ (g.S.Sink.seen l.out).write_faults;
 }
 
 abbrev pub decreases-loop-place : goal.decreases-loop-place
