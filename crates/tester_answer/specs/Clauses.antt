@@ -126,9 +126,17 @@ Began plan before now sink_before sink_now = WhereTold before.told (λ held. Wro
 abbrev pub Wrote : Plan → FilesSeen → FilesSeen → SinkSeen → SinkSeen → Type 0
 Wrote plan before now sink_before sink_now = WhereTold before.told (λ held. WroteWhole plan held now sink_before sink_now)
 
--- the plan has this refusal, or a fault of reading was counted where it reaches that name, and only reading was done
+-- the plan has Done with this text over the contents that are told, and changes no file
+abbrev pub Has : Plan → FilesSeen → List ℕ → Type 0
+Has plan before text = WhereTold before.told (λ held. Gives plan held Done text held)
+
+-- the plan refuses; by a usage rule it does so whatever the files hold
+abbrev pub RefusedBy : Plan → FilesSeen → FilesSeen → Status → Type 0
+RefusedBy plan before now status = Refused (UsageRefused plan) plan before now status
+
+-- the plan refuses, and only reading was done
 abbrev pub IsRefused : Plan → FilesSeen → FilesSeen → Status → Type 0
-IsRefused plan before now status = OnlyRead before now × Refused (UsageRefused plan) plan before now status
+IsRefused plan before now status = OnlyRead before now × RefusedBy plan before now status
 
 -- Writing failed: the sink's count rose, and a beginning of a text was written; or that of the files rose, and the
 -- writing of a file was cut short.

@@ -5,7 +5,7 @@ ghost use Rattle.mql_lower.specs.Follows.{Follows};
 ghost use Rattle.market_data.specs.BarsFile.{bars_of, IsBar};
 ghost use Rattle.tester_io.specs.Outside.{WhereTold};
 ghost use Rattle.tester_answer.specs.Answer.{Gives};
-ghost use Rattle.tester_answer.specs.Clauses.{counts, NoneFell, Refused, Never};
+ghost use Rattle.tester_answer.specs.Clauses.{OnlyRead, Refused, Never};
 ghost use Rattle.tester_cli.specs.Refusals.{BarsStatus};
 ghost use Rattle.tester_cli.specs.Commands.{quick_plan, quick_bars, Reports};
 
@@ -66,14 +66,10 @@ fn over_bars<F: Files>(
     bars: &str,
     files: &mut F,
 ) -> Result<Text8, Status>
-    ensures same { F.told files.new ≡ F.told files.old }
-    ensures none_fell { NoneFell (counts (F.absents files.old) (F.read_faults files.old) (F.oversizes files.old))
-        (counts (F.absents files.new) (F.read_faults files.new) (F.oversizes files.new)) }
-    ensures ready { IfOk result (λ text. (checked : Checked) → Follows checked program.now → WhereTold (F.told files.old)
+    ensures only_read { OnlyRead (F.seen files.old) (F.seen files.new) }
+    ensures ready { IfOk result (λ text. (checked : Checked) → Follows checked program.now → WhereTold (F.seen files.old).told
         (λ held. Gives (quick_bars bars.now checked) held Status.Done text held)) }
-    ensures refused { IfErr result (λ status. (checked : Checked) → Refused Never (quick_bars bars.now checked) (F.told files.old)
-        (counts (F.absents files.old) (F.read_faults files.old) (F.oversizes files.old))
-        (counts (F.absents files.new) (F.read_faults files.new) (F.oversizes files.new)) status) }
+    ensures refused { IfErr result (λ status. (checked : Checked) → Refused Never (quick_bars bars.now checked) (F.seen files.old) (F.seen files.new) status) }
 {
     let name = named(alloc, bars)?;
     let bytes = read(alloc, files, &name, PRICE_LIMIT)?;
@@ -89,11 +85,9 @@ pub fn quick<F: Files>(
     bars: &str,
     files: &mut F,
 ) -> Result<Text8, Status>
-    ensures same { F.told files.new ≡ F.told files.old }
-    ensures ready { IfOk result (λ text. WhereTold (F.told files.old) (λ held. Gives (quick_plan expert.now bars.now) held Status.Done text held)) }
-    ensures refused { IfErr result (Refused Never (quick_plan expert.now bars.now) (F.told files.old)
-        (counts (F.absents files.old) (F.read_faults files.old) (F.oversizes files.old))
-        (counts (F.absents files.new) (F.read_faults files.new) (F.oversizes files.new))) }
+    ensures only_read { OnlyRead (F.seen files.old) (F.seen files.new) }
+    ensures ready { IfOk result (λ text. WhereTold (F.seen files.old).told (λ held. Gives (quick_plan expert.now bars.now) held Status.Done text held)) }
+    ensures refused { IfErr result (Refused Never (quick_plan expert.now bars.now) (F.seen files.old) (F.seen files.new)) }
 {
     let name = named(alloc, expert)?;
     let (sources, tokens) = read_sources(alloc, &name, files)?;

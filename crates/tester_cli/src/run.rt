@@ -18,11 +18,9 @@ use tester_io::{Files, Sink, WriteError};
 
 // What `quick` writes of these names, or why it writes nothing.
 fn run_quick<F: Files>(alloc: Global, names: &[String], files: &mut F) -> Result<Text8, Status>
-    ensures same { F.told files.new ≡ F.told files.old }
-    ensures ready { IfOk result (λ text. WhereTold (F.told files.old) (λ held. Gives (quick_names (map string_bytes names.now)) held Status.Done text held)) }
-    ensures refused { IfErr result (Refused (UsageRefused (quick_names (map string_bytes names.now))) (quick_names (map string_bytes names.now)) (F.told files.old)
-        (counts (F.absents files.old) (F.read_faults files.old) (F.oversizes files.old))
-        (counts (F.absents files.new) (F.read_faults files.new) (F.oversizes files.new))) }
+    ensures only_read { OnlyRead (F.seen files.old) (F.seen files.new) }
+    ensures ready { IfOk result (λ text. WhereTold (F.seen files.old).told (λ held. Gives (quick_names (map string_bytes names.now)) held Status.Done text held)) }
+    ensures refused { IfErr result (Refused (UsageRefused (quick_names (map string_bytes names.now))) (quick_names (map string_bytes names.now)) (F.seen files.old) (F.seen files.new)) }
 {
     if names.len() != 2 {
         return Err(Status::Usage(3));
@@ -35,11 +33,9 @@ fn run_quick<F: Files>(alloc: Global, names: &[String], files: &mut F) -> Result
 
 // What `check` writes of these names, or why it writes nothing.
 fn run_check<F: Files>(alloc: Global, names: &[String], files: &mut F) -> Result<Text8, Status>
-    ensures same { F.told files.new ≡ F.told files.old }
-    ensures ready { IfOk result (λ text. WhereTold (F.told files.old) (λ held. Gives (check_names (map string_bytes names.now)) held Status.Done text held)) }
-    ensures refused { IfErr result (Refused (UsageRefused (check_names (map string_bytes names.now))) (check_names (map string_bytes names.now)) (F.told files.old)
-        (counts (F.absents files.old) (F.read_faults files.old) (F.oversizes files.old))
-        (counts (F.absents files.new) (F.read_faults files.new) (F.oversizes files.new))) }
+    ensures only_read { OnlyRead (F.seen files.old) (F.seen files.new) }
+    ensures ready { IfOk result (λ text. WhereTold (F.seen files.old).told (λ held. Gives (check_names (map string_bytes names.now)) held Status.Done text held)) }
+    ensures refused { IfErr result (Refused (UsageRefused (check_names (map string_bytes names.now))) (check_names (map string_bytes names.now)) (F.seen files.old) (F.seen files.new)) }
 {
     if names.len() != 1 {
         return Err(Status::Usage(3));
@@ -52,11 +48,9 @@ fn run_check<F: Files>(alloc: Global, names: &[String], files: &mut F) -> Result
 
 // What a command writes, or why it writes nothing.
 fn prepare<F: Files>(alloc: Global, words: &[String], files: &mut F) -> Result<Text8, Status>
-    ensures same { F.told files.new ≡ F.told files.old }
-    ensures ready { IfOk result (λ text. WhereTold (F.told files.old) (λ held. Gives (plan_of (map string_bytes words.now)) held Status.Done text held)) }
-    ensures refused { IfErr result (Refused (UsageRefused (plan_of (map string_bytes words.now))) (plan_of (map string_bytes words.now)) (F.told files.old)
-        (counts (F.absents files.old) (F.read_faults files.old) (F.oversizes files.old))
-        (counts (F.absents files.new) (F.read_faults files.new) (F.oversizes files.new))) }
+    ensures only_read { OnlyRead (F.seen files.old) (F.seen files.new) }
+    ensures ready { IfOk result (λ text. WhereTold (F.seen files.old).told (λ held. Gives (plan_of (map string_bytes words.now)) held Status.Done text held)) }
+    ensures refused { IfErr result (Refused (UsageRefused (plan_of (map string_bytes words.now))) (plan_of (map string_bytes words.now)) (F.seen files.old) (F.seen files.new)) }
 {
     match words {
         [] => Err(Status::Usage(2)),
@@ -83,34 +77,30 @@ pub fn run_single<F: Files, S: Sink>(
     out: &mut S,
 ) -> Status
     // At Done the sink gained a text that the plan has with Done, and the files are as the plan has them with it.
-    ensures done { result ≡ Status.Done → WhereTold (F.told files.old) (λ held. WhereTold (S.told out.old) (λ before.
-        WroteWhole (plan_of (map string_bytes words.now)) held before (S.told out.new) (F.told files.new))) }
+    ensures done { result ≡ Status.Done → WhereTold (F.seen files.old).told (λ held. WhereTold (S.told out.old) (λ before.
+        WroteWhole (plan_of (map string_bytes words.now)) held before (S.told out.new) (F.seen files.new).told)) }
 
     // At Usage to Grid the plan has that very status, the sink is as it was and no file changed; Usage is by the words alone.
-    ensures judged { AtJudgement result ((out.new ≡ out.old) × (F.told files.new ≡ F.told files.old)
-        × Refused (UsageRefused (plan_of (map string_bytes words.now))) (plan_of (map string_bytes words.now)) (F.told files.old)
-        (counts (F.absents files.old) (F.read_faults files.old) (F.oversizes files.old))
-        (counts (F.absents files.new) (F.read_faults files.new) (F.oversizes files.new)) result) }
+    ensures judged { AtJudgement result ((out.new ≡ out.old) × ((F.seen files.new).told ≡ (F.seen files.old).told)
+        × Refused (UsageRefused (plan_of (map string_bytes words.now))) (plan_of (map string_bytes words.now)) (F.seen files.old) (F.seen files.new) result) }
 
     // At Absent, ReadFault or TooLarge that count rose, and the plan reaches the reading of that name.
-    ensures unread { AtUnread result ((out.new ≡ out.old) × (F.told files.new ≡ F.told files.old)
-        × Refused (UsageRefused (plan_of (map string_bytes words.now))) (plan_of (map string_bytes words.now)) (F.told files.old)
-        (counts (F.absents files.old) (F.read_faults files.old) (F.oversizes files.old))
-        (counts (F.absents files.new) (F.read_faults files.new) (F.oversizes files.new)) result) }
+    ensures unread { AtUnread result ((out.new ≡ out.old) × ((F.seen files.new).told ≡ (F.seen files.old).told)
+        × Refused (UsageRefused (plan_of (map string_bytes words.now))) (plan_of (map string_bytes words.now)) (F.seen files.old) (F.seen files.new) result) }
 
     // At WriteFault the sink's count rose, and the sink gained a beginning of a text that the plan has with Done.
     ensures unwritten { result ≡ Status.WriteFault → Rose (S.write_faults out.old) (S.write_faults out.new)
-        × (F.told files.new ≡ F.told files.old)
-        × WhereTold (F.told files.old) (λ held. WhereTold (S.told out.old) (λ before.
+        × ((F.seen files.new).told ≡ (F.seen files.old).told)
+        × WhereTold (F.seen files.old).told (λ held. WhereTold (S.told out.old) (λ before.
         WrotePart (plan_of (map string_bytes words.now)) held before (S.told out.new))) }
 
     // At OutOfMemory it gained such a beginning, or nothing.
-    ensures memory { result ≡ Status.OutOfMemory → (F.told files.new ≡ F.told files.old)
-        × WhereTold (F.told files.old) (λ held. WhereTold (S.told out.old) (λ before.
+    ensures memory { result ≡ Status.OutOfMemory → ((F.seen files.new).told ≡ (F.seen files.old).told)
+        × WhereTold (F.seen files.old).told (λ held. WhereTold (S.told out.old) (λ before.
         WroteNothing before (S.told out.new) ⊎ WrotePart (plan_of (map string_bytes words.now)) held before (S.told out.new))) }
 
     // Where the plan has Done over what is told, and no fault of reading or writing was counted, all is done but for memory.
-    ensures complete { WhereTold (F.told files.old) (λ held. WhereTold (S.told out.old) (λ before.
+    ensures complete { WhereTold (F.seen files.old).told (λ held. WhereTold (S.told out.old) (λ before.
         HasDone (plan_of (map string_bytes words.now)) held → ¬ Rose (F.read_faults files.old) (F.read_faults files.new)
         → ¬ Rose (S.write_faults out.old) (S.write_faults out.new) → IsDoneOrMemory result)) }
 {

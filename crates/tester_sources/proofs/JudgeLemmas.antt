@@ -1,6 +1,6 @@
 -- How the plans of a program go on behind its tokens.
 use Rattle.std.proofs.Common.{◌≡◌, ℕ, ◌+◌, List, [], Option, Result, Ok, Err, refl, sym, ap, subst}
-use Rattle.tester_io.specs.Outside.{Contents}
+use Rattle.tester_io.specs.Outside.{Contents, FilesSeen}
 use Rattle.mql_tree.specs.declared.token.Tree.{Tree}
 use Rattle.mql_preproc.specs.declared.source.Source.{Source}
 use Rattle.mql_parse.specs.declared.fault.ParseFault.{ParseFault}
@@ -10,9 +10,10 @@ use Rattle.mql_mean.specs.declared.tree.Checked.{Checked}
 use Rattle.tester_answer.specs.declared.status.Status.{Status}
 use Rattle.tester_answer.specs.declared.status.Status.TheVariants as status
 use Rattle.tester_answer.specs.Answer.{Plan, Gives}
-use Rattle.tester_answer.specs.Clauses.{ReadCounts, Refused, Never}
+use Rattle.tester_answer.specs.Clauses.{Refused, Never}
 use Rattle.tester_answer.proofs.PlanLemmas.{Leads, leads_same, leads_finding}
-use Rattle.tester_answer.proofs.OneStatus.{OneStatus, refuses_one, finds_one}
+use Rattle.tester_answer.specs.Answer.{OneEnd}
+use Rattle.tester_answer.proofs.OneEnd.{refuses_one, finds_one}
 use Rattle.tester_sources.specs.Reading.{Tokens, never, program_plan, most_files, OneAnswer}
 use Rattle.tester_sources.specs.Judging.{with_tree, tree_plan, with_program, TreeRefused, FormRefused, OneTree}
 use Rattle.tester_sources.proofs.SourceLemmas.{sources_lead, sources_one}
@@ -31,48 +32,48 @@ pub form_leads : (entry : List ℕ) (sources : List Source) (tokens : Tokens) (t
 form_leads entry sources tokens tree checked next told is = subst (λ r. Leads (with_program entry sources tokens next r) (next checked) told) (sym is) (leads_same (next checked) told)
 
 -- tokens without a tree are refused
-pub tree_refused : (entry : List ℕ) (sources : List Source) (tokens : Tokens) (next : List Source → Tokens → Tree → Plan) (told : Option Contents) (before now : ReadCounts) (s : Status) → TreeRefused entry sources tokens s → Refused Never (tree_plan entry next sources tokens) told before now s
-tree_refused entry sources tokens next told before now (status.Source given) (fault, is, same) = λ held i. (Err fault, is, (ap status.Source same, refl, refl))
-tree_refused entry sources tokens next told before now status.OutOfMemory h = tt
-tree_refused entry sources tokens next told before now status.Done h = absurd h
-tree_refused entry sources tokens next told before now (status.Usage rule) h = absurd h
-tree_refused entry sources tokens next told before now (status.Settings rule key) h = absurd h
-tree_refused entry sources tokens next told before now (status.Prices file row rule) h = absurd h
-tree_refused entry sources tokens next told before now (status.CodeFile rule place) h = absurd h
-tree_refused entry sources tokens next told before now (status.Grid rule input) h = absurd h
-tree_refused entry sources tokens next told before now (status.Absent name) h = absurd h
-tree_refused entry sources tokens next told before now (status.ReadFault name) h = absurd h
-tree_refused entry sources tokens next told before now status.WriteFault h = absurd h
-tree_refused entry sources tokens next told before now (status.TooLarge name) h = absurd h
+pub tree_refused : (entry : List ℕ) (sources : List Source) (tokens : Tokens) (next : List Source → Tokens → Tree → Plan) (before now : FilesSeen) (s : Status) → TreeRefused entry sources tokens s → Refused Never (tree_plan entry next sources tokens) before now s
+tree_refused entry sources tokens next before now (status.Source given) (fault, is, same) = λ held i. (Err fault, is, (ap status.Source same, refl, refl))
+tree_refused entry sources tokens next before now status.OutOfMemory h = tt
+tree_refused entry sources tokens next before now status.Done h = absurd h
+tree_refused entry sources tokens next before now (status.Usage rule) h = absurd h
+tree_refused entry sources tokens next before now (status.Settings rule key) h = absurd h
+tree_refused entry sources tokens next before now (status.Prices file row rule) h = absurd h
+tree_refused entry sources tokens next before now (status.CodeFile rule place) h = absurd h
+tree_refused entry sources tokens next before now (status.Grid rule input) h = absurd h
+tree_refused entry sources tokens next before now (status.Absent name) h = absurd h
+tree_refused entry sources tokens next before now (status.ReadFault name) h = absurd h
+tree_refused entry sources tokens next before now status.WriteFault h = absurd h
+tree_refused entry sources tokens next before now (status.TooLarge name) h = absurd h
 
 -- so is a tree that is not of the form
-pub form_refused : (entry : List ℕ) (sources : List Source) (tokens : Tokens) (tree : Tree) (next : Checked → Plan) (told : Option Contents) (before now : ReadCounts) (s : Status) → FormRefused entry sources tokens tree s → Refused Never (with_program entry sources tokens next (program tokens tree)) told before now s
-form_refused entry sources tokens tree next told before now (status.Source given) (place, is, same) =
+pub form_refused : (entry : List ℕ) (sources : List Source) (tokens : Tokens) (tree : Tree) (next : Checked → Plan) (before now : FilesSeen) (s : Status) → FormRefused entry sources tokens tree s → Refused Never (with_program entry sources tokens next (program tokens tree)) before now s
+form_refused entry sources tokens tree next before now (status.Source given) (place, is, same) =
     λ held i. subst (λ r. Gives (with_program entry sources tokens next r) held (status.Source given) [] held) (sym is) (ap status.Source same, refl, refl)
-form_refused entry sources tokens tree next told before now status.OutOfMemory h = tt
-form_refused entry sources tokens tree next told before now status.Done h = absurd h
-form_refused entry sources tokens tree next told before now (status.Usage rule) h = absurd h
-form_refused entry sources tokens tree next told before now (status.Settings rule key) h = absurd h
-form_refused entry sources tokens tree next told before now (status.Prices file row rule) h = absurd h
-form_refused entry sources tokens tree next told before now (status.CodeFile rule place) h = absurd h
-form_refused entry sources tokens tree next told before now (status.Grid rule input) h = absurd h
-form_refused entry sources tokens tree next told before now (status.Absent name) h = absurd h
-form_refused entry sources tokens tree next told before now (status.ReadFault name) h = absurd h
-form_refused entry sources tokens tree next told before now status.WriteFault h = absurd h
-form_refused entry sources tokens tree next told before now (status.TooLarge name) h = absurd h
+form_refused entry sources tokens tree next before now status.OutOfMemory h = tt
+form_refused entry sources tokens tree next before now status.Done h = absurd h
+form_refused entry sources tokens tree next before now (status.Usage rule) h = absurd h
+form_refused entry sources tokens tree next before now (status.Settings rule key) h = absurd h
+form_refused entry sources tokens tree next before now (status.Prices file row rule) h = absurd h
+form_refused entry sources tokens tree next before now (status.CodeFile rule place) h = absurd h
+form_refused entry sources tokens tree next before now (status.Grid rule input) h = absurd h
+form_refused entry sources tokens tree next before now (status.Absent name) h = absurd h
+form_refused entry sources tokens tree next before now (status.ReadFault name) h = absurd h
+form_refused entry sources tokens tree next before now status.WriteFault h = absurd h
+form_refused entry sources tokens tree next before now (status.TooLarge name) h = absurd h
 
 -- one status, where each tree gives one
-with_tree_one : (entry : List ℕ) (sources : List Source) (tokens : Tokens) (next : Tree → Plan) → ((tree : Tree) → OneStatus (next tree)) → (answer : Result Tree ParseFault) → OneStatus (with_tree entry sources tokens next answer)
+with_tree_one : (entry : List ℕ) (sources : List Source) (tokens : Tokens) (next : Tree → Plan) → ((tree : Tree) → OneEnd (next tree)) → (answer : Result Tree ParseFault) → OneEnd (with_tree entry sources tokens next answer)
 with_tree_one entry sources tokens next each (Ok tree) = each tree
 with_tree_one entry sources tokens next each (Err fault) = refuses_one _
 
-pub with_program_one : (entry : List ℕ) (sources : List Source) (tokens : Tokens) (next : Checked → Plan) → ((checked : Checked) → OneStatus (next checked)) → (answer : Result Checked (Option ℕ)) → OneStatus (with_program entry sources tokens next answer)
+pub with_program_one : (entry : List ℕ) (sources : List Source) (tokens : Tokens) (next : Checked → Plan) → ((checked : Checked) → OneEnd (next checked)) → (answer : Result Checked (Option ℕ)) → OneEnd (with_program entry sources tokens next answer)
 with_program_one entry sources tokens next each (Ok checked) = each checked
 with_program_one entry sources tokens next each (Err place) = refuses_one _
 
-pub tree_one : OneTree → (entry : List ℕ) (sources : List Source) (tokens : Tokens) (next : List Source → Tokens → Tree → Plan) → ((tree : Tree) → OneStatus (next sources tokens tree)) → OneStatus (tree_plan entry next sources tokens)
+pub tree_one : OneTree → (entry : List ℕ) (sources : List Source) (tokens : Tokens) (next : List Source → Tokens → Tree → Plan) → ((tree : Tree) → OneEnd (next sources tokens tree)) → OneEnd (tree_plan entry next sources tokens)
 tree_one alone entry sources tokens next each = finds_one (Result Tree ParseFault) (Parsing tokens) (with_tree entry sources tokens (next sources tokens)) (alone tokens) (with_tree_one entry sources tokens (next sources tokens) each)
 
-pub program_one : OneAnswer → (entry : List ℕ) (next : List Source → Tokens → Plan) → ((sources : List Source) (tokens : Tokens) → OneStatus (next sources tokens)) → OneStatus (program_plan entry next)
+pub program_one : OneAnswer → (entry : List ℕ) (next : List Source → Tokens → Plan) → ((sources : List Source) (tokens : Tokens) → OneEnd (next sources tokens)) → OneEnd (program_plan entry next)
 unfolding program_plan
 program_one one entry next each = sources_one one (most_files + 1) entry [] next each

@@ -1,6 +1,6 @@
 -- How the plan of a program's files goes on.
 use Rattle.std.proofs.Common.{◌≡◌, ℕ, zero, suc, ◌+◌, ◌-◌, ◌≤◌, List, [], ◌∷◌, ◌++◌, length, Option, Some, None, Result, Ok, Err, refl, sym, ap, ◌∙◌, subst, arith, length-append}
-use Rattle.tester_io.specs.Outside.{Contents, WhereTold}
+use Rattle.tester_io.specs.Outside.{Contents, FilesSeen, WhereTold}
 use Rattle.mql_tree.specs.declared.text.TextFault.{TextFault}
 use Rattle.mql_tree.specs.Text.{text_of}
 use Rattle.mql_preproc.specs.declared.source.Source.{Source}
@@ -14,9 +14,10 @@ use Rattle.mql_preproc.specs.Turns.{NeededInTurn, one_more}
 use Rattle.tester_answer.specs.declared.status.Status.{Status}
 use Rattle.tester_answer.specs.declared.status.Status.TheVariants as status
 use Rattle.tester_answer.specs.Answer.{Plan, Reads, Finds, Ends, refuses}
-use Rattle.tester_answer.specs.Clauses.{ReadCounts, NoneFell, IsReading, ReadingRefused, Refused, Never}
+use Rattle.tester_answer.specs.Clauses.{OnlyRead, IsReading, ReadingRefused, Refused, Never}
 use Rattle.tester_answer.proofs.PlanLemmas.{Leads, leads_same, leads_on, leads_reading, leads_finding, leads_never, leads_both_read, leads_both_find, refused_here, refused_on}
-use Rattle.tester_answer.proofs.OneStatus.{OneStatus, refuses_one, reads_one, finds_one}
+use Rattle.tester_answer.specs.Answer.{OneEnd}
+use Rattle.tester_answer.proofs.OneEnd.{refuses_one, reads_one, finds_one}
 use Rattle.tester_sources.specs.Faults.{text_fault, source_fault, TellsFault, TellsText, TellsRefusal}
 use Rattle.tester_sources.specs.Reading.{source_limit, most_files, Tokens, source, never, with_text, with_tokens, sources_plan, program_plan, ReadInTurn, none, needed, NeedMet, Refusing, FilesRefused, TextRefused, file_plan, OneAnswer}
 
@@ -93,14 +94,14 @@ turn_on entry told told_mid old new again turns met held is =
     same name s e = subst (λ n. source n s.text ≡ s) e refl
 
 -- one time is left
-once_more : (entry : List ℕ) (sources : List Source) (told : Option Contents) (before now : ReadCounts) (s : Status) → length sources ≤ most_files
-    → Refused Never (sources_plan (suc (most_files - length sources)) entry sources (λ sources tokens. never)) told before now s → Refused Never (sources_plan (most_files + 1 - length sources) entry sources (λ sources tokens. never)) told before now s
-once_more entry sources told before now s few r =
-    subst (λ k. Refused Never (sources_plan k entry sources (λ sources tokens. never)) told before now s) (let e : suc (most_files - length sources) ≡ most_files + 1 - length sources = omega (arith, few) in e) r
+once_more : (entry : List ℕ) (sources : List Source) (before now : FilesSeen) (s : Status) → length sources ≤ most_files
+    → Refused Never (sources_plan (suc (most_files - length sources)) entry sources (λ sources tokens. never)) before now s → Refused Never (sources_plan (most_files + 1 - length sources) entry sources (λ sources tokens. never)) before now s
+once_more entry sources before now s few r =
+    subst (λ k. Refused Never (sources_plan k entry sources (λ sources tokens. never)) before now s) (let e : suc (most_files - length sources) ≡ most_files + 1 - length sources = omega (arith, few) in e) r
 
 -- a plan of files refuses what preprocessing refuses
-refused_now : (k : ℕ) (entry : List ℕ) (sources : List Source) (told : Option Contents) (before now : ReadCounts) (s : Status) → FilesRefused entry sources s → Refused Never (sources_plan (suc k) entry sources (λ sources tokens. never)) told before now s
-refused_now k entry sources told before now (status.Source given) (fault, other, is, same) =
+refused_now : (k : ℕ) (entry : List ℕ) (sources : List Source) (before now : FilesSeen) (s : Status) → FilesRefused entry sources s → Refused Never (sources_plan (suc k) entry sources (λ sources tokens. never)) before now s
+refused_now k entry sources before now (status.Source given) (fault, other, is, same) =
     λ held i. (Err fault, is, subst (λ p. Rattle.tester_answer.specs.Answer.Gives p held (status.Source given) [] held) (sym (refusal_of _ fault other)) (ap status.Source same, refl, refl))
   where
     refusal_of : (reads : List ℕ → Plan) (fault : PreFault) → Refusing fault → with_tokens sources (λ sources tokens. never) reads (Err fault) ≡ refuses (status.Source (source_fault sources fault))
@@ -113,37 +114,37 @@ refused_now k entry sources told before now (status.Source given) (fault, other,
     refusal_of reads (TooManyFiles span) h = refl
     refusal_of reads (Lex fault) h = refl
     refusal_of reads OutOfMemory h = absurd h
-refused_now k entry sources told before now status.OutOfMemory h = tt
-refused_now k entry sources told before now status.Done h = absurd h
-refused_now k entry sources told before now (status.Usage rule) h = absurd h
-refused_now k entry sources told before now (status.Settings rule key) h = absurd h
-refused_now k entry sources told before now (status.Prices file row rule) h = absurd h
-refused_now k entry sources told before now (status.CodeFile rule place) h = absurd h
-refused_now k entry sources told before now (status.Grid rule input) h = absurd h
-refused_now k entry sources told before now (status.Absent name) h = absurd h
-refused_now k entry sources told before now (status.ReadFault name) h = absurd h
-refused_now k entry sources told before now status.WriteFault h = absurd h
-refused_now k entry sources told before now (status.TooLarge name) h = absurd h
+refused_now k entry sources before now status.OutOfMemory h = tt
+refused_now k entry sources before now status.Done h = absurd h
+refused_now k entry sources before now (status.Usage rule) h = absurd h
+refused_now k entry sources before now (status.Settings rule key) h = absurd h
+refused_now k entry sources before now (status.Prices file row rule) h = absurd h
+refused_now k entry sources before now (status.CodeFile rule place) h = absurd h
+refused_now k entry sources before now (status.Grid rule input) h = absurd h
+refused_now k entry sources before now (status.Absent name) h = absurd h
+refused_now k entry sources before now (status.ReadFault name) h = absurd h
+refused_now k entry sources before now status.WriteFault h = absurd h
+refused_now k entry sources before now (status.TooLarge name) h = absurd h
 
-pub files_refused : (entry : List ℕ) (sources : List Source) (told : Option Contents) (before now : ReadCounts) (s : Status) → length sources ≤ most_files → FilesRefused entry sources s → Refused Never (sources_plan (most_files + 1 - length sources) entry sources (λ sources tokens. never)) told before now s
-files_refused entry sources told before now s few h = once_more entry sources told before now s few (refused_now (most_files - length sources) entry sources told before now s h)
+pub files_refused : (entry : List ℕ) (sources : List Source) (before now : FilesSeen) (s : Status) → length sources ≤ most_files → FilesRefused entry sources s → Refused Never (sources_plan (most_files + 1 - length sources) entry sources (λ sources tokens. never)) before now s
+files_refused entry sources before now s few h = once_more entry sources before now s few (refused_now (most_files - length sources) entry sources before now s h)
 
 -- a text that is refused
-pub text_refused : (name bytes : List ℕ) (told : Option Contents) (before mid now : ReadCounts) (s : Status) → IsReading name source_limit told bytes → NoneFell before mid → NoneFell mid now → TextRefused name bytes s → Refused Never (file_plan name) told before now s
-text_refused name bytes told before mid now (status.Source given) reading fell fell' (fault, is, same) =
-    refused_on Never (file_plan name) (with_text name (text_of bytes) (λ text. never)) told before mid now (status.Source given) (leads_reading name source_limit _ told bytes reading) fell
+pub text_refused : (name bytes : List ℕ) (before mid now : FilesSeen) (s : Status) → IsReading name source_limit before.told bytes → OnlyRead before mid → OnlyRead mid now → TextRefused name bytes s → Refused Never (file_plan name) before now s
+text_refused name bytes before mid now (status.Source given) reading fell fell' (fault, is, same) =
+    refused_on Never (file_plan name) (with_text name (text_of bytes) (λ text. never)) before mid now (status.Source given) (leads_reading name source_limit _ before.told bytes reading) fell
     (λ held i. subst (λ r. Rattle.tester_answer.specs.Answer.Gives (with_text name r (λ text. never)) held (status.Source given) [] held) (sym is) (ap status.Source same, refl, refl))
-text_refused name bytes told before mid now status.OutOfMemory reading fell fell' h = tt
-text_refused name bytes told before mid now status.Done reading fell fell' h = absurd h
-text_refused name bytes told before mid now (status.Usage rule) reading fell fell' h = absurd h
-text_refused name bytes told before mid now (status.Settings rule key) reading fell fell' h = absurd h
-text_refused name bytes told before mid now (status.Prices file row rule) reading fell fell' h = absurd h
-text_refused name bytes told before mid now (status.CodeFile rule place) reading fell fell' h = absurd h
-text_refused name bytes told before mid now (status.Grid rule input) reading fell fell' h = absurd h
-text_refused name bytes told before mid now (status.Absent which) reading fell fell' h = absurd h
-text_refused name bytes told before mid now (status.ReadFault which) reading fell fell' h = absurd h
-text_refused name bytes told before mid now status.WriteFault reading fell fell' h = absurd h
-text_refused name bytes told before mid now (status.TooLarge which) reading fell fell' h = absurd h
+text_refused name bytes before mid now status.OutOfMemory reading fell fell' h = tt
+text_refused name bytes before mid now status.Done reading fell fell' h = absurd h
+text_refused name bytes before mid now (status.Usage rule) reading fell fell' h = absurd h
+text_refused name bytes before mid now (status.Settings rule key) reading fell fell' h = absurd h
+text_refused name bytes before mid now (status.Prices file row rule) reading fell fell' h = absurd h
+text_refused name bytes before mid now (status.CodeFile rule place) reading fell fell' h = absurd h
+text_refused name bytes before mid now (status.Grid rule input) reading fell fell' h = absurd h
+text_refused name bytes before mid now (status.Absent which) reading fell fell' h = absurd h
+text_refused name bytes before mid now (status.ReadFault which) reading fell fell' h = absurd h
+text_refused name bytes before mid now status.WriteFault reading fell fell' h = absurd h
+text_refused name bytes before mid now (status.TooLarge which) reading fell fell' h = absurd h
 
 -- past the need of a file, to its reading alone
 need_leads : (j : ℕ) (entry : List ℕ) (sources : List Source) (told : Option Contents) (name : List ℕ) → Preprocesses entry sources (Err (Need name)) → Leads (sources_plan (suc j) entry sources (λ sources tokens. never)) (file_plan name) told
@@ -154,27 +155,22 @@ need_leads j entry sources told name needs =
     (λ bytes. texts_lead name (text_of bytes) (λ text. sources_plan j entry (sources ++ source name text ∷ []) (λ sources tokens. never)) (λ text. never) told (λ text. leads_never _ told)))
 
 -- the file that is needed is refused
-pub needed_refused : (entry : List ℕ) (sources : List Source) (told : Option Contents) (before mid now : ReadCounts) (s : Status) (name : List ℕ) → length sources ≤ most_files → NoneFell before mid → Preprocesses entry sources (Err (Need name)) → Refused Never (file_plan name) told mid now s → Refused Never (sources_plan (most_files + 1 - length sources) entry sources (λ sources tokens. never)) told before now s
-needed_refused entry sources told before mid now s name few fell needs r =
-    once_more entry sources told before now s few
-    (refused_on Never (sources_plan (suc (most_files - length sources)) entry sources (λ sources tokens. never)) (file_plan name) told before mid now s (need_leads (most_files - length sources) entry sources told name needs) fell r)
-
--- nothing fell
-pub none_fell_same : (counts : ReadCounts) → NoneFell counts counts
-none_fell_same counts = record { absents = omega arith; read_faults = omega arith; oversizes = omega arith }
+pub needed_refused : (entry : List ℕ) (sources : List Source) (before mid now : FilesSeen) (s : Status) (name : List ℕ) → length sources ≤ most_files → OnlyRead before mid → Preprocesses entry sources (Err (Need name)) → Refused Never (file_plan name) mid now s → Refused Never (sources_plan (most_files + 1 - length sources) entry sources (λ sources tokens. never)) before now s
+needed_refused entry sources before mid now s name few fell needs r =
+    once_more entry sources before now s few
+    (refused_on Never (sources_plan (suc (most_files - length sources)) entry sources (λ sources tokens. never)) (file_plan name) before mid now s (need_leads (most_files - length sources) entry sources before.told name needs) fell r)
 
 -- the reading of a file is refused
-pub reading_refused : (name : List ℕ) (told : Option Contents) (before now : ReadCounts) (s : Status) → ReadingRefused name source_limit told before now s → Refused Never (file_plan name) told before now s
-reading_refused name told before now s r = refused_here Never name source_limit (λ bytes. with_text name (text_of bytes) (λ text. never)) told before now s r
+pub reading_refused : (name : List ℕ) (before now : FilesSeen) (s : Status) → ReadingRefused name source_limit before now s → Refused Never (file_plan name) before now s
+reading_refused name before now s r = refused_here Never name source_limit (λ bytes. with_text name (text_of bytes) (λ text. never)) before now s r
 
 -- a refusal of the files to come is one of the program
-pub program_refused : (entry : List ℕ) (sources : List Source) (told told_mid : Option Contents) (before mid now : ReadCounts) (s : Status) → told_mid ≡ told → WhereTold told (λ held. ReadInTurn entry held sources) → length sources ≤ most_files → NoneFell before mid → Refused Never (sources_plan (most_files + 1 - length sources) entry sources (λ sources tokens. never)) told_mid mid now s → Refused Never (program_plan entry (λ sources tokens. never)) told before now s
-program_refused entry sources told told_mid before mid now s same turns few fell r =
-    refused_on Never _ _ told before mid now s (past entry told sources (most_files + 1 - length sources) (λ sources tokens. never) turns (omega (arith, few))) fell
-    (subst (λ t. Refused Never (sources_plan (most_files + 1 - length sources) entry sources (λ sources tokens. never)) t mid now s) same r)
+pub program_refused : (entry : List ℕ) (sources : List Source) (before mid now : FilesSeen) (s : Status) → WhereTold before.told (λ held. ReadInTurn entry held sources) → length sources ≤ most_files → OnlyRead before mid → Refused Never (sources_plan (most_files + 1 - length sources) entry sources (λ sources tokens. never)) mid now s → Refused Never (program_plan entry (λ sources tokens. never)) before now s
+program_refused entry sources before mid now s turns few read r =
+    refused_on Never _ _ before mid now s (past entry before.told sources (most_files + 1 - length sources) (λ sources tokens. never) turns (omega (arith, few))) read r
 
 -- one status, where each program's tokens give one
-pub tokens_one : (sources : List Source) (next : List Source → Tokens → Plan) (reads : List ℕ → Plan) → ((sources : List Source) (tokens : Tokens) → OneStatus (next sources tokens)) → ((name : List ℕ) → OneStatus (reads name)) → (answer : Result Tokens PreFault) → OneStatus (with_tokens sources next reads answer)
+pub tokens_one : (sources : List Source) (next : List Source → Tokens → Plan) (reads : List ℕ → Plan) → ((sources : List Source) (tokens : Tokens) → OneEnd (next sources tokens)) → ((name : List ℕ) → OneEnd (reads name)) → (answer : Result Tokens PreFault) → OneEnd (with_tokens sources next reads answer)
 tokens_one sources next reads each other (Ok tokens) = each sources tokens
 tokens_one sources next reads each other (Err (Need name)) = other name
 tokens_one sources next reads each other (Err (BadDirective span)) = refuses_one _
@@ -238,14 +234,14 @@ refusal_told entry sources OutOfMemory s is h = subst (FilesRefused entry source
 pub need_told : (entry : List ℕ) (sources : List Source) (fault : PreFault) (name : List ℕ) → Unless fault (Preprocesses entry sources (Err fault)) → fault ≡ Need name → Preprocesses entry sources (Err (Need name))
 need_told entry sources fault name is e = subst (λ fault. Unless fault (Preprocesses entry sources (Err fault))) e is
 
-never_one : OneStatus never
+never_one : OneEnd never
 never_one held s s' text text' after after' g g' = absurd g
 
-text_one : (name : List ℕ) (r : Result (List ℕ) TextFault) (next : List ℕ → Plan) → ((text : List ℕ) → OneStatus (next text)) → OneStatus (with_text name r next)
+text_one : (name : List ℕ) (r : Result (List ℕ) TextFault) (next : List ℕ → Plan) → ((text : List ℕ) → OneEnd (next text)) → OneEnd (with_text name r next)
 text_one name (Ok text) next each = each text
 text_one name (Err fault) next each = refuses_one _
 
-pub sources_one : OneAnswer → (k : ℕ) (entry : List ℕ) (sources : List Source) (next : List Source → Tokens → Plan) → ((sources : List Source) (tokens : Tokens) → OneStatus (next sources tokens)) → OneStatus (sources_plan k entry sources next)
+pub sources_one : OneAnswer → (k : ℕ) (entry : List ℕ) (sources : List Source) (next : List Source → Tokens → Plan) → ((sources : List Source) (tokens : Tokens) → OneEnd (next sources tokens)) → OneEnd (sources_plan k entry sources next)
 sources_one one zero entry sources next each = never_one
 sources_one one (suc k) entry sources next each =
     finds_one (Result Tokens PreFault) (Preprocesses entry sources) (with_tokens sources next (λ name. Reads name source_limit (λ bytes. with_text name (text_of bytes) (λ text. sources_plan k entry (sources ++ source name text ∷ []) next)))) (one entry sources)

@@ -4,7 +4,7 @@ ghost use Rattle.mql_tree.specs.Text.{text_of};
 ghost use Rattle.mql_preproc.specs.Reading.{Preprocesses};
 ghost use Rattle.mql_preproc.specs.Turns.{NeededInTurn};
 ghost use Rattle.tester_io.specs.Outside.{WhereTold};
-ghost use Rattle.tester_answer.specs.Clauses.{counts, NoneFell, Refused, Never};
+ghost use Rattle.tester_answer.specs.Clauses.{OnlyRead, Refused, Never};
 ghost use Rattle.tester_sources.specs.Reading.{IsSource, IsWanted, FewTokens, FilesRefused, TextRefused, NeedMet, ReadInTurn, file_plan, sources_plan, program_plan, never};
 
 use crate::fault::{refusal, text_status};
@@ -59,13 +59,9 @@ fn judge_text(alloc: Global, name: &Text8, bytes: &[u8]) -> Result<Text, Status>
 
 // Reads a file and judges its text.
 fn read_source<F: Files>(alloc: Global, files: &mut F, name: Text8) -> Result<Source, Status>
-    ensures same { F.told files.new ≡ F.told files.old }
-    ensures none_fell { NoneFell (counts (F.absents files.old) (F.read_faults files.old) (F.oversizes files.old))
-        (counts (F.absents files.new) (F.read_faults files.new) (F.oversizes files.new)) }
-    ensures read { IfOk result (IsSource (F.told files.old) name) }
-    ensures refused { IfErr result (Refused Never (file_plan name) (F.told files.old)
-        (counts (F.absents files.old) (F.read_faults files.old) (F.oversizes files.old))
-        (counts (F.absents files.new) (F.read_faults files.new) (F.oversizes files.new))) }
+    ensures only_read { OnlyRead (F.seen files.old) (F.seen files.new) }
+    ensures read { IfOk result (IsSource (F.seen files.old).told name) }
+    ensures refused { IfErr result (Refused Never (file_plan name) (F.seen files.old) (F.seen files.new)) }
 {
     let bytes = read(alloc, files, &name, SOURCE_LIMIT)?;
     let text = judge_text(alloc, &name, bytes.as_slice())?;
@@ -81,16 +77,12 @@ fn turn<F: Files>(
 ) -> Result<Option<Tokens>, Status>
     requires turns { NeededInTurn entry.now sources.old }
     requires texts { All (λ s. length s.text ≤ 1048576) sources.old }
-    ensures same { F.told files.new ≡ F.told files.old }
-    ensures none_fell { NoneFell (counts (F.absents files.old) (F.read_faults files.old) (F.oversizes files.old))
-        (counts (F.absents files.new) (F.read_faults files.new) (F.oversizes files.new)) }
-    ensures read { IfOk result (λ found. MatchOption found (NeedMet entry.now (F.told files.old) sources.old sources.new)
+    ensures only_read { OnlyRead (F.seen files.old) (F.seen files.new) }
+    ensures read { IfOk result (λ found. MatchOption found (NeedMet entry.now (F.seen files.old).told sources.old sources.new)
         (λ tokens. (sources.new ≡ sources.old) × Preprocesses entry.now sources.old (Ok tokens))) }
     ensures few { IfOk result (λ found. IfSome found (λ tokens. length tokens ≤ 400000)) }
     ensures still_short { IfOk result (λ found. All (λ s. length s.text ≤ 1048576) sources.new) }
-    ensures refused { IfErr result (Refused Never (sources_plan (513 - length sources.old) entry.now sources.old (λ sources tokens. never)) (F.told files.old)
-        (counts (F.absents files.old) (F.read_faults files.old) (F.oversizes files.old))
-        (counts (F.absents files.new) (F.read_faults files.new) (F.oversizes files.new))) }
+    ensures refused { IfErr result (Refused Never (sources_plan (513 - length sources.old) entry.now sources.old (λ sources tokens. never)) (F.seen files.old) (F.seen files.new)) }
 {
     needed_in_turn();
     let name = match make_wanted(alloc, entry, sources)? {
@@ -110,16 +102,12 @@ pub fn read_sources<F: Files>(
     entry: &Text8,
     files: &mut F,
 ) -> Result<(Sources, Tokens), Status>
-    ensures same { F.told files.new ≡ F.told files.old }
-    ensures none_fell { NoneFell (counts (F.absents files.old) (F.read_faults files.old) (F.oversizes files.old))
-        (counts (F.absents files.new) (F.read_faults files.new) (F.oversizes files.new)) }
-    ensures read { IfOk result (λ found. WhereTold (F.told files.old) (λ held. ReadInTurn entry.now held found.0)) }
+    ensures only_read { OnlyRead (F.seen files.old) (F.seen files.new) }
+    ensures read { IfOk result (λ found. WhereTold (F.seen files.old).told (λ held. ReadInTurn entry.now held found.0)) }
     ensures tokens { IfOk result (λ found. Preprocesses entry.now found.0 (Ok found.1)) }
     ensures few { IfOk result (λ found. length found.0 ≤ 512) }
     ensures short { IfOk result (λ found. length found.1 ≤ 400000) }
-    ensures refused { IfErr result (Refused Never (program_plan entry.now (λ sources tokens. never)) (F.told files.old)
-        (counts (F.absents files.old) (F.read_faults files.old) (F.oversizes files.old))
-        (counts (F.absents files.new) (F.read_faults files.new) (F.oversizes files.new))) }
+    ensures refused { IfErr result (Refused Never (program_plan entry.now (λ sources tokens. never)) (F.seen files.old) (F.seen files.new)) }
 {
     needed_in_turn();
     let mut sources = Sources::new(alloc);

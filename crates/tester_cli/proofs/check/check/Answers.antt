@@ -1,6 +1,5 @@
 use Rattle.std.proofs.lemmas.Result.{err_from_is_err_and}
 use Rattle.std.proofs.Common.{◌∙◌}
-use Rattle.tester_answer.specs.Clauses.{counts}
 use Rattle.tester_sources.specs.Judging.{tree_plan}
 use Rattle.tester_sources.proofs.JudgeLemmas.{tree_refused}
 use Rattle.tester_cli.specs.Commands.{check_tree}
@@ -12,9 +11,8 @@ returns-in_err-sources-clause-refused g c =
     let p = err_from_is_err_and c.from_residual-in_err-sources.result c.from_residual-in_err-sources.ensures.1 in
     let r = rw c.in_ok-name.ensures at c.in_err-sources.ensures.refused in
     rw (p.1, p.2)
-    (sources_refused c.args.entry.now (tree_plan c.args.entry.now check_tree) (g.F.Files.told c.args.files.now)
-    (counts (g.F.Files.absents c.args.files.now) (g.F.Files.read_faults c.args.files.now) (g.F.Files.oversizes c.args.files.now))
-    (counts (g.F.Files.absents c.read_sources.new.files) (g.F.Files.read_faults c.read_sources.new.files) (g.F.Files.oversizes c.read_sources.new.files))
+    (sources_refused c.args.entry.now (tree_plan c.args.entry.now check_tree) (g.F.Files.seen c.args.files.now)
+    (g.F.Files.seen c.read_sources.new.files)
     _ r)
 
 pub returns-in_err-_tree-clause-refused : goal.returns-in_err-_tree-clause-refused
@@ -23,12 +21,11 @@ returns-in_err-_tree-clause-refused g c =
     let turns = rw c.in_ok-name.ensures at c.in_ok-sources.ensures.read in
     let makes = rw c.in_ok-name.ensures at c.in_ok-sources.ensures.tokens in
     let refused = rw c.in_ok-name.ensures at c.in_err-_tree.ensures.refused in
-    let now = counts (g.F.Files.absents c.read_sources.new.files) (g.F.Files.read_faults c.read_sources.new.files) (g.F.Files.oversizes c.read_sources.new.files) in
+    let now = (g.F.Files.seen c.read_sources.new.files) in
     rw (p.1, p.2)
-    (behind_refused c.args.entry.now c.in_ok-sources.sources c.in_ok-sources.tokens (tree_plan c.args.entry.now check_tree) (g.F.Files.told c.args.files.now) (g.F.Files.told c.read_sources.new.files)
-    (counts (g.F.Files.absents c.args.files.now) (g.F.Files.read_faults c.args.files.now) (g.F.Files.oversizes c.args.files.now)) now now
+    (behind_refused c.args.entry.now c.in_ok-sources.sources c.in_ok-sources.tokens (tree_plan c.args.entry.now check_tree) (g.F.Files.told c.args.files.now) (g.F.Files.seen c.args.files.now) now now
     _ turns c.in_ok-sources.ensures.few makes c.in_ok-sources.ensures.none_fell c.in_ok-sources.ensures.same
-    (tree_refused c.args.entry.now c.in_ok-sources.sources c.in_ok-sources.tokens check_tree (g.F.Files.told c.read_sources.new.files) now now _ refused))
+    (tree_refused c.args.entry.now c.in_ok-sources.sources c.in_ok-sources.tokens check_tree now now _ refused))
 
 pub returns-clause-ready : goal.returns-clause-ready
 returns-clause-ready g c =

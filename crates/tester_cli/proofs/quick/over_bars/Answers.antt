@@ -1,5 +1,4 @@
 use Rattle.std.proofs.lemmas.Result.{err_from_is_err_and}
-use Rattle.tester_answer.specs.Clauses.{counts}
 use Rattle.tester_cli.proofs.RunLemmas.{bars_refused}
 use Rattle.tester_cli.proofs.quick.over_bars.Goals as goal
 
@@ -7,7 +6,6 @@ pub returns-in_err-bytes-clause-refused : goal.returns-in_err-bytes-clause-refus
 returns-in_err-bytes-clause-refused g c =
     let p = err_from_is_err_and c.from_residual-in_err-bytes.result c.from_residual-in_err-bytes.ensures.1 in
     rw (p.1, p.2) (λ checked.
-    bars_refused c.args.bars.now checked (g.F.Files.told c.args.files.now)
-    (counts (g.F.Files.absents c.args.files.now) (g.F.Files.read_faults c.args.files.now) (g.F.Files.oversizes c.args.files.now))
-    (counts (g.F.Files.absents c.read.new.files) (g.F.Files.read_faults c.read.new.files) (g.F.Files.oversizes c.read.new.files))
+    bars_refused c.args.bars.now checked (g.F.Files.seen c.args.files.now)
+    (g.F.Files.seen c.read.new.files)
     _ c.in_ok-name.name c.in_ok-name.ensures c.in_err-bytes.ensures.refused)

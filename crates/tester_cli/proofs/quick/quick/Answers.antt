@@ -1,6 +1,5 @@
 use Rattle.std.proofs.lemmas.Result.{err_from_is_err_and, IfErr-weaker, IfOk-weaker}
 use Rattle.std.proofs.Common.{◌∙◌}
-use Rattle.tester_answer.specs.Clauses.{counts}
 use Rattle.tester_cli.specs.Commands.{quick_rest}
 use Rattle.tester_cli.proofs.RunLemmas.{sources_refused, behind_refused, program_refused, quick_leads, quick_refused}
 use Rattle.tester_cli.proofs.quick.quick.Goals as goal
@@ -10,9 +9,8 @@ returns-in_err-sources-clause-refused g c =
     let p = err_from_is_err_and c.from_residual-in_err-sources.result c.from_residual-in_err-sources.ensures.1 in
     let r = rw c.in_ok-name.ensures at c.in_err-sources.ensures.refused in
     rw (p.1, p.2)
-    (sources_refused c.args.expert.now (quick_rest c.args.expert.now c.args.bars.now) (g.F.Files.told c.args.files.now)
-    (counts (g.F.Files.absents c.args.files.now) (g.F.Files.read_faults c.args.files.now) (g.F.Files.oversizes c.args.files.now))
-    (counts (g.F.Files.absents c.read_sources.new.files) (g.F.Files.read_faults c.read_sources.new.files) (g.F.Files.oversizes c.read_sources.new.files))
+    (sources_refused c.args.expert.now (quick_rest c.args.expert.now c.args.bars.now) (g.F.Files.seen c.args.files.now)
+    (g.F.Files.seen c.read_sources.new.files)
     _ r)
 
 pub returns-in_err-program-clause-refused : goal.returns-in_err-program-clause-refused
@@ -21,12 +19,11 @@ returns-in_err-program-clause-refused g c =
     let turns = rw c.in_ok-name.ensures at c.in_ok-sources.ensures.read in
     let makes = rw c.in_ok-name.ensures at c.in_ok-sources.ensures.tokens in
     let refused = rw c.in_ok-name.ensures at c.in_err-program.ensures.refused in
-    let now = counts (g.F.Files.absents c.read_sources.new.files) (g.F.Files.read_faults c.read_sources.new.files) (g.F.Files.oversizes c.read_sources.new.files) in
+    let now = (g.F.Files.seen c.read_sources.new.files) in
     rw (p.1, p.2)
-    (behind_refused c.args.expert.now c.in_ok-sources.sources c.in_ok-sources.tokens (quick_rest c.args.expert.now c.args.bars.now) (g.F.Files.told c.args.files.now) (g.F.Files.told c.read_sources.new.files)
-    (counts (g.F.Files.absents c.args.files.now) (g.F.Files.read_faults c.args.files.now) (g.F.Files.oversizes c.args.files.now)) now now
+    (behind_refused c.args.expert.now c.in_ok-sources.sources c.in_ok-sources.tokens (quick_rest c.args.expert.now c.args.bars.now) (g.F.Files.told c.args.files.now) (g.F.Files.seen c.args.files.now) now now
     _ turns c.in_ok-sources.ensures.few makes c.in_ok-sources.ensures.none_fell c.in_ok-sources.ensures.same
-    (program_refused c.args.expert.now c.args.bars.now c.in_ok-sources.sources c.in_ok-sources.tokens (g.F.Files.told c.read_sources.new.files) now now _ refused))
+    (program_refused c.args.expert.now c.args.bars.now c.in_ok-sources.sources c.in_ok-sources.tokens now now _ refused))
 
 pub returns-clause-ready : goal.returns-clause-ready
 returns-clause-ready g c =
@@ -46,9 +43,8 @@ returns-clause-refused g c =
     let p = c.in_ok-program.ensures.program in
     IfErr-weaker c.over_bars.result _ _
     (λ status refused.
-    quick_refused c.args.expert.now c.args.bars.now c.in_ok-sources.sources c.in_ok-sources.tokens (g.F.Files.told c.args.files.now) (g.F.Files.told c.read_sources.new.files)
-    (counts (g.F.Files.absents c.args.files.now) (g.F.Files.read_faults c.args.files.now) (g.F.Files.oversizes c.args.files.now))
-    (counts (g.F.Files.absents c.read_sources.new.files) (g.F.Files.read_faults c.read_sources.new.files) (g.F.Files.oversizes c.read_sources.new.files))
-    (counts (g.F.Files.absents c.over_bars.new.files) (g.F.Files.read_faults c.over_bars.new.files) (g.F.Files.oversizes c.over_bars.new.files))
+    quick_refused c.args.expert.now c.args.bars.now c.in_ok-sources.sources c.in_ok-sources.tokens (g.F.Files.told c.args.files.now) (g.F.Files.seen c.args.files.now)
+    (g.F.Files.seen c.read_sources.new.files)
+    (g.F.Files.seen c.over_bars.new.files)
     status c.in_ok-program.program p turns c.in_ok-sources.ensures.few makes c.in_ok-sources.ensures.none_fell c.in_ok-sources.ensures.same (refused p.checked))
     c.over_bars.ensures.refused

@@ -1,5 +1,4 @@
 use Rattle.std.proofs.lemmas.Result.{err_from_is_err_and}
-use Rattle.tester_answer.specs.Clauses.{counts}
 use Rattle.tester_sources.proofs.SourceLemmas.{reading_refused}
 use Rattle.tester_sources.proofs.reading.read_source.Goals as goal
 
@@ -7,7 +6,6 @@ pub returns-in_err-bytes-clause-refused : goal.returns-in_err-bytes-clause-refus
 returns-in_err-bytes-clause-refused g c =
     let p = err_from_is_err_and c.from_residual.result c.from_residual.ensures.1 in
     rw (p.1, p.2)
-    (reading_refused c.args.name (g.F.Files.told c.args.files.now)
-    (counts (g.F.Files.absents c.args.files.now) (g.F.Files.read_faults c.args.files.now) (g.F.Files.oversizes c.args.files.now))
-    (counts (g.F.Files.absents c.read.new.files) (g.F.Files.read_faults c.read.new.files) (g.F.Files.oversizes c.read.new.files))
+    (reading_refused c.args.name (g.F.Files.seen c.args.files.now)
+    (g.F.Files.seen c.read.new.files)
     _ c.in_err-bytes.ensures.refused)

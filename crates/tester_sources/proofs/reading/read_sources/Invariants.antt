@@ -1,15 +1,14 @@
-use Rattle.std.proofs.Common.{◌≡◌, ◌-◌, ◌≤◌, length, All}
+use Rattle.std.proofs.Common.{◌-◌, ◌≤◌, length, All}
 use Rattle.mql_preproc.specs.Turns.{NeededInTurn}
 use Rattle.tester_io.specs.Outside.{WhereTold}
-use Rattle.tester_answer.specs.Clauses.{counts, NoneFell}
+use Rattle.tester_answer.specs.Clauses.{OnlyRead}
 use Rattle.tester_sources.specs.Reading.{ReadInTurn}
 use Rattle.tester_sources.proofs.reading.read_sources.Given as goal
 
 abbrev pub invariant-loop-sources : goal.invariant-loop-sources
 invariant-loop-sources g l =
-    (g.F.Files.told l.files ≡ g.F.Files.told l.fn.files)
-    × NoneFell (counts (g.F.Files.absents l.fn.files) (g.F.Files.read_faults l.fn.files) (g.F.Files.oversizes l.fn.files)) (counts (g.F.Files.absents l.files) (g.F.Files.read_faults l.files) (g.F.Files.oversizes l.files))
-    × WhereTold (g.F.Files.told l.fn.files) (λ held. ReadInTurn l.entry held l.sources)
+    OnlyRead (g.F.Files.seen l.fn.files) (g.F.Files.seen l.files)
+    × WhereTold (g.F.Files.seen l.fn.files).told (λ held. ReadInTurn l.entry held l.sources)
     × NeededInTurn l.entry l.sources × All (λ s. length s.text ≤ 1048576) l.sources
 
 abbrev pub decreases-loop-sources : goal.decreases-loop-sources
