@@ -1,17 +1,18 @@
 -- The plan of a command line has one status over given contents, so where it has Done nothing is refused.
-use Rattle.std.proofs.Common.{◌≡◌, ℕ, Bool, true, false, List, [], ◌∷◌, ◌≤◌, inl, inr, length, Option, Some, None, Ok, ◌++◌, refl, sym, subst, ◌∙◌}
+use Rattle.std.proofs.Common.{◌≡◌, ℕ, Bool, true, false, List, [], ◌∷◌, ◌≤◌, inl, inr, length, take, Option, Some, None, Ok, ◌++◌, refl, sym, subst, ◌∙◌}
 use Rattle.std.specs.Str.{bytes_eq}
 use Rattle.std.specs.Prelude.{codes}
-use Rattle.tester_io.specs.Outside.{Contents, WhereTold}
+use Rattle.tester_io.specs.Outside.{Contents, FilesSeen, SinkSeen, WhereTold}
 use Rattle.mql_mean.specs.declared.tree.Checked.{Checked}
 use Rattle.market_types.specs.declared.bar.Bar.{Bar}
 use Rattle.market_data.specs.BarsFile.{bars_of}
 use Rattle.tester_answer.specs.declared.status.Status.{Status}
 use Rattle.tester_answer.specs.declared.status.Status.TheVariants.{Done, Usage, Prices}
 use Rattle.tester_answer.specs.Answer.{Plan, Ends, Gives}
-use Rattle.tester_answer.specs.Clauses.{ReadCounts, NoneFell, ReadingRefused, Refused, Never}
-use Rattle.tester_answer.proofs.PlanLemmas.{Leads, leads_on, refused_here, refused_on}
-use Rattle.tester_answer.proofs.OneStatus.{OneStatus, refuses_one, reads_one}
+use Rattle.tester_answer.specs.Clauses.{OnlyRead, ReadingRefused, Refused, Never, Has, Gained, Wrote, Began}
+use Rattle.tester_answer.proofs.PlanLemmas.{Leads, leads_on, refused_here, refused_on, only_read_same}
+use Rattle.tester_answer.specs.Answer.{OneEnd}
+use Rattle.tester_answer.proofs.OneEnd.{refuses_one, reads_one}
 use Rattle.tester_answer.specs.Answer.{refuses}
 use Rattle.tester_cli.specs.Commands.{with_bars, reports, quick_bars, quick_tree, quick_rest, quick_plan, quick_names, says, check_tree, check_plan, check_names, chosen, plan_of, price_limit}
 use Rattle.tester_cli.specs.Compiling.{IsProgramOf, ProgramRefused}
@@ -23,72 +24,72 @@ use Rattle.mql_parse.specs.Parsed.{Parsing}
 use Rattle.mql_level.specs.Level.{program}
 use Rattle.tester_sources.specs.Reading.{Tokens, most_files, never, program_plan, ReadInTurn, OneAnswer}
 use Rattle.tester_sources.specs.Judging.{tree_plan, OneTree}
-use Rattle.tester_sources.proofs.SourceLemmas.{read_leads, none_fell_same}
+use Rattle.tester_sources.proofs.SourceLemmas.{read_leads}
 use Rattle.tester_sources.proofs.JudgeLemmas.{program_lead, tree_leads, form_leads, tree_refused, form_refused, program_one, tree_one, with_program_one}
 
-reports_one : (checked : Checked) (bars : List Bar) → OneStatus (Ends (reports checked bars))
+reports_one : (checked : Checked) (bars : List Bar) → OneEnd (Ends (reports checked bars))
 reports_one checked bars held s s' text text' after after' g g' = g.0 ∙ sym g'.0
 
-bars_one : (name : List ℕ) (checked : Checked) (found : Option (List Bar)) → OneStatus (with_bars name found (λ rows. Ends (reports checked rows)))
+bars_one : (name : List ℕ) (checked : Checked) (found : Option (List Bar)) → OneEnd (with_bars name found (λ rows. Ends (reports checked rows)))
 bars_one name checked None = refuses_one (Prices name 0 10)
 bars_one name checked (Some bars) = reports_one checked bars
 
-bars_read_one : (bars : List ℕ) (checked : Checked) → OneStatus (quick_bars bars checked)
+bars_read_one : (bars : List ℕ) (checked : Checked) → OneEnd (quick_bars bars checked)
 bars_read_one bars checked = reads_one bars price_limit (λ bytes. with_bars bars (bars_of bytes) (λ rows. Ends (reports checked rows))) (λ bytes. bars_one bars checked (bars_of bytes))
 
 -- over files that have one answer of preprocessing, and tokens that have one of the parser
 module _ (one : OneAnswer) (alone : OneTree) where
-  quick_one : (expert bars : List ℕ) → OneStatus (quick_plan expert bars)
+  quick_one : (expert bars : List ℕ) → OneEnd (quick_plan expert bars)
   quick_one expert bars =
       program_one one expert (quick_rest expert bars)
       (λ sources tokens. tree_one alone expert sources tokens (quick_tree expert bars) (λ tree. with_program_one expert sources tokens (quick_bars bars) (λ checked. bars_read_one bars checked) (program tokens tree)))
 
-  said_one : (words : List ℕ) → OneStatus (Ends (says words))
+  said_one : (words : List ℕ) → OneEnd (Ends (says words))
   said_one words held s s' text text' after after' g g' = g.0 ∙ sym g'.0
 
-  check_one : (entry : List ℕ) → OneStatus (check_plan entry)
+  check_one : (entry : List ℕ) → OneEnd (check_plan entry)
   check_one entry = program_one one entry (tree_plan entry check_tree) (λ sources tokens. tree_one alone entry sources tokens check_tree (λ tree. said_one (codes "ok" ++ 10 ∷ [])))
 
-  quick_names_one : (names : List (List ℕ)) → OneStatus (quick_names names)
+  quick_names_one : (names : List (List ℕ)) → OneEnd (quick_names names)
   quick_names_one [] = refuses_one (Usage 3)
   quick_names_one (one ∷ []) = refuses_one (Usage 3)
   quick_names_one (expert ∷ bars ∷ []) = quick_one expert bars
   quick_names_one (a ∷ b ∷ c ∷ more) = refuses_one (Usage 3)
 
-  check_names_one : (names : List (List ℕ)) → OneStatus (check_names names)
+  check_names_one : (names : List (List ℕ)) → OneEnd (check_names names)
   check_names_one [] = refuses_one (Usage 3)
   check_names_one (entry ∷ []) = check_one entry
   check_names_one (a ∷ b ∷ more) = refuses_one (Usage 3)
 
-  pub plan_one : (words : List (List ℕ)) → OneStatus (plan_of words)
+  pub plan_one : (words : List (List ℕ)) → OneEnd (plan_of words)
   plan_one [] = refuses_one (Usage 2)
   plan_one (command ∷ names) = of_test (bytes_eq command (codes "quick")) (bytes_eq command (codes "check"))
     where
-      of_test : (b c : Bool) → OneStatus (chosen b (quick_names names) (chosen c (check_names names) (refuses (Usage 2))))
+      of_test : (b c : Bool) → OneEnd (chosen b (quick_names names) (chosen c (check_names names) (refuses (Usage 2))))
       of_test true c = quick_names_one names
       of_test false true = check_names_one names
       of_test false false = refuses_one (Usage 2)
 
 -- the reading of the bars is refused
-pub bars_refused : (bars : List ℕ) (checked : Checked) (told : Option Contents) (before now : ReadCounts) (status : Status) (name : List ℕ) → name ≡ bars → ReadingRefused name price_limit told before now status → Refused Never (quick_bars bars checked) told before now status
-bars_refused bars checked told before now status name e r =
-    refused_here Never bars price_limit (λ bytes. with_bars bars (bars_of bytes) (λ rows. Ends (reports checked rows))) told before now status
-    (subst (λ n. ReadingRefused n price_limit told before now status) e r)
+pub bars_refused : (bars : List ℕ) (checked : Checked) (before now : FilesSeen) (status : Status) (name : List ℕ) → name ≡ bars → ReadingRefused name price_limit before now status → Refused Never (quick_bars bars checked) before now status
+bars_refused bars checked before now status name e r =
+    refused_here Never bars price_limit (λ bytes. with_bars bars (bars_of bytes) (λ rows. Ends (reports checked rows))) before now status
+    (subst (λ n. ReadingRefused n price_limit before now status) e r)
 
 -- the sources are refused
-pub sources_refused : (entry : List ℕ) (next : List Source → Tokens → Plan) (told : Option Contents) (before now : ReadCounts) (s : Status) → Refused Never (program_plan entry (λ sources tokens. never)) told before now s → Refused Never (program_plan entry next) told before now s
-sources_refused entry next told before now s r = refused_on Never (program_plan entry next) (program_plan entry (λ sources tokens. never)) told before before now s (program_lead entry next told) (none_fell_same before) r
+pub sources_refused : (entry : List ℕ) (next : List Source → Tokens → Plan) (before now : FilesSeen) (s : Status) → Refused Never (program_plan entry (λ sources tokens. never)) before now s → Refused Never (program_plan entry next) before now s
+sources_refused entry next before now s r = refused_on Never (program_plan entry next) (program_plan entry (λ sources tokens. never)) before before now s (program_lead entry next before.told) (only_read_same before) r
 
 -- what comes behind the tokens is refused
-pub behind_refused : (entry : List ℕ) (sources : List Source) (tokens : Tokens) (next : List Source → Tokens → Plan) (told told_mid : Option Contents) (before mid now : ReadCounts) (s : Status) → WhereTold told (λ held. ReadInTurn entry held sources) → length sources ≤ most_files → Preprocesses entry sources (Ok tokens) → NoneFell before mid → told_mid ≡ told → Refused Never (next sources tokens) told_mid mid now s → Refused Never (program_plan entry next) told before now s
-behind_refused entry sources tokens next told told_mid before mid now s turns few makes fell same r =
-    refused_on Never (program_plan entry next) (next sources tokens) told before mid now s (read_leads entry told sources tokens next turns few makes) fell (subst (λ t. Refused Never (next sources tokens) t mid now s) same r)
+pub behind_refused : (entry : List ℕ) (sources : List Source) (tokens : Tokens) (next : List Source → Tokens → Plan) (before mid now : FilesSeen) (s : Status) → WhereTold before.told (λ held. ReadInTurn entry held sources) → length sources ≤ most_files → Preprocesses entry sources (Ok tokens) → OnlyRead before mid → Refused Never (next sources tokens) mid now s → Refused Never (program_plan entry next) before now s
+behind_refused entry sources tokens next before mid now s turns few makes read r =
+    refused_on Never (program_plan entry next) (next sources tokens) before mid now s (read_leads entry before.told sources tokens next turns few makes) read r
 
 -- the program is refused
-pub program_refused : (expert bars : List ℕ) (sources : List Source) (tokens : Tokens) (told : Option Contents) (before now : ReadCounts) (s : Status) → ProgramRefused expert sources tokens s → Refused Never (quick_rest expert bars sources tokens) told before now s
-program_refused expert bars sources tokens told before now s (inl h) = tree_refused expert sources tokens (quick_tree expert bars) told before now s h
-program_refused expert bars sources tokens told before now s (inr (tree, parses, h)) =
-    refused_on Never (quick_rest expert bars sources tokens) (quick_tree expert bars sources tokens tree) told before before now s (tree_leads expert sources tokens tree (quick_tree expert bars) told parses) (none_fell_same before) (form_refused expert sources tokens tree (quick_bars bars) told before now s h)
+pub program_refused : (expert bars : List ℕ) (sources : List Source) (tokens : Tokens) (before now : FilesSeen) (s : Status) → ProgramRefused expert sources tokens s → Refused Never (quick_rest expert bars sources tokens) before now s
+program_refused expert bars sources tokens before now s (inl h) = tree_refused expert sources tokens (quick_tree expert bars) before now s h
+program_refused expert bars sources tokens before now s (inr (tree, parses, h)) =
+    refused_on Never (quick_rest expert bars sources tokens) (quick_tree expert bars sources tokens tree) before before now s (tree_leads expert sources tokens tree (quick_tree expert bars) before.told parses) (only_read_same before) (form_refused expert sources tokens tree (quick_bars bars) before now s h)
 
 -- what comes behind the program
 pub program_leads : (expert bars : List ℕ) (sources : List Source) (tokens : Tokens) (tree : Tree) (checked : Checked) (told : Option Contents) → Parsing tokens (Ok tree) → program tokens tree ≡ Ok checked → Leads (quick_rest expert bars sources tokens) (quick_bars bars checked) told
@@ -108,9 +109,18 @@ check_given entry sources tokens tree told text turns few makes parses says_ok h
     ((tree_leads entry sources tokens tree check_tree told parses).gives held is Done text held (refl, says_ok, refl))
 
 -- a refusal behind the program
-pub quick_refused : (expert bars : List ℕ) (sources : List Source) (tokens : Tokens) (told told_mid : Option Contents) (before mid now : ReadCounts) (s : Status) (code : Code) (p : IsProgramOf tokens code) → WhereTold told (λ held. ReadInTurn expert held sources) → length sources ≤ most_files → Preprocesses expert sources (Ok tokens) → NoneFell before mid → told_mid ≡ told → Refused Never (quick_bars bars p.checked) told_mid mid now s → Refused Never (quick_plan expert bars) told before now s
-quick_refused expert bars sources tokens told told_mid before mid now s code p turns few makes fell same r =
-    refused_on Never (quick_plan expert bars) (quick_bars bars p.checked) told before mid now s (quick_leads expert bars sources tokens told code p turns few makes) fell (subst (λ t. Refused Never (quick_bars bars p.checked) t mid now s) same r)
+pub quick_refused : (expert bars : List ℕ) (sources : List Source) (tokens : Tokens) (before mid now : FilesSeen) (s : Status) (code : Code) (p : IsProgramOf tokens code) → WhereTold before.told (λ held. ReadInTurn expert held sources) → length sources ≤ most_files → Preprocesses expert sources (Ok tokens) → OnlyRead before mid → Refused Never (quick_bars bars p.checked) mid now s → Refused Never (quick_plan expert bars) before now s
+quick_refused expert bars sources tokens before mid now s code p turns few makes read r =
+    refused_on Never (quick_plan expert bars) (quick_bars bars p.checked) before mid now s (quick_leads expert bars sources tokens before.told code p turns few makes) read r
+
+-- a text that the plan has was written whole, or in part
+pub wrote : (plan : Plan) (text : List ℕ) (before now : FilesSeen) (sink_before sink_now : SinkSeen) → Has plan before text → OnlyRead before now → Gained text sink_before sink_now → Wrote plan before now sink_before sink_now
+wrote plan text before now sink_before sink_now has read gained held told =
+    record { text = text; after = held; gives = has held told; kept = read.told ∙ told; grew = gained }
+
+pub began : (plan : Plan) (text : List ℕ) (before now : FilesSeen) (sink_before sink_now : SinkSeen) → Has plan before text → OnlyRead before now → (k : ℕ) × Gained (take k text) sink_before sink_now → Began plan before now sink_before sink_now
+began plan text before now sink_before sink_now has read (k, gained) held told =
+    record { text = text; after = held; gives = has held told; kept = read.told ∙ told; part = k; grew = gained }
 
 -- a wrong number of names
 pub quick_usage : (names : List (List ℕ)) → (length names ≡ 2 → ⊥) → (held : Contents) → Gives (quick_names names) held (Usage 3) [] held

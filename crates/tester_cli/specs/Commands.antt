@@ -1,6 +1,8 @@
 -- What each command does. Own.
-use Rattle.std.specs.Prelude.{◌≡◌, ℕ, Bool, true, false, List, [], ◌∷◌, ◌++◌, Option, Some, None, codes}
+use Rattle.std.specs.Prelude.{◌≡◌, ℕ, Bool, true, false, map, String, List, [], ◌∷◌, ◌++◌, Option, Some, None, codes}
 use Rattle.std.specs.Str.{bytes_eq}
+use Rattle.std.specs.String.{string_bytes}
+use Rattle.std.specs.declared.string.String.{String}
 use Rattle.mql_mean.specs.declared.tree.Checked.{Checked}
 use Rattle.market_types.specs.declared.bar.Bar.{Bar}
 use Rattle.market_data.specs.BarsFile.{bars_of}
@@ -71,7 +73,14 @@ abbrev pub chosen : Bool → Plan → Plan → Plan
 chosen true a b = a
 chosen false a b = b
 
--- what the words of a command line do: no command or an unknown one breaks usage rule 2, a wrong number of names rule 3
+-- what the words of a command line do: no command or an unknown one breaks usage rule 2, a wrong number of names
+-- rule 3
 abbrev pub plan_of : List (List ℕ) → Plan
 plan_of [] = refuses (Usage 2)
-plan_of (command ∷ names) = chosen (bytes_eq command (codes "quick")) (quick_names names) (chosen (bytes_eq command (codes "check")) (check_names names) (refuses (Usage 2)))
+plan_of (command ∷ names) =
+    chosen (bytes_eq command (codes "quick")) (quick_names names)
+    (chosen (bytes_eq command (codes "check")) (check_names names) (refuses (Usage 2)))
+
+-- the words of a command line as bytes
+abbrev pub words_of : List String → List (List ℕ)
+words_of words = map string_bytes words

@@ -2,7 +2,7 @@
 ghost use Rattle.std.specs.Prelude.{◌≡◌, IfOk, IfErr};
 ghost use Rattle.tester_io.specs.Outside.{WhereTold};
 ghost use Rattle.tester_answer.specs.Answer.{Gives};
-ghost use Rattle.tester_answer.specs.Clauses.{OnlyRead, Refused, Never};
+ghost use Rattle.tester_answer.specs.Clauses.{OnlyRead, Has, Refused, Never};
 ghost use Rattle.tester_cli.specs.Commands.{check_plan};
 
 use crate::quick::named;
@@ -18,7 +18,7 @@ const OK: [u8; 3] = *b"ok\n";
 /// `ok` where the stages that are built so far find no fault in the source, or why not.
 pub fn check<F: Files>(alloc: Global, entry: &str, files: &mut F) -> Result<Text8, Status>
     ensures only_read { OnlyRead (F.seen files.old) (F.seen files.new) }
-    ensures ready { IfOk result (λ text. WhereTold (F.seen files.old).told (λ held. Gives (check_plan entry.now) held Status.Done text held)) }
+    ensures ready { IfOk result (Has (check_plan entry.now) (F.seen files.old)) }
     ensures refused { IfErr result (Refused Never (check_plan entry.now) (F.seen files.old) (F.seen files.new)) }
 {
     let name = named(alloc, entry)?;

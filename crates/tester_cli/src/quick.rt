@@ -5,7 +5,7 @@ ghost use Rattle.mql_lower.specs.Follows.{Follows};
 ghost use Rattle.market_data.specs.BarsFile.{bars_of, IsBar};
 ghost use Rattle.tester_io.specs.Outside.{WhereTold};
 ghost use Rattle.tester_answer.specs.Answer.{Gives};
-ghost use Rattle.tester_answer.specs.Clauses.{OnlyRead, Refused, Never};
+ghost use Rattle.tester_answer.specs.Clauses.{OnlyRead, Has, Refused, Never};
 ghost use Rattle.tester_cli.specs.Refusals.{BarsStatus};
 ghost use Rattle.tester_cli.specs.Commands.{quick_plan, quick_bars, Reports};
 
@@ -67,9 +67,10 @@ fn over_bars<F: Files>(
     files: &mut F,
 ) -> Result<Text8, Status>
     ensures only_read { OnlyRead (F.seen files.old) (F.seen files.new) }
-    ensures ready { IfOk result (λ text. (checked : Checked) → Follows checked program.now → WhereTold (F.seen files.old).told
-        (λ held. Gives (quick_bars bars.now checked) held Status.Done text held)) }
-    ensures refused { IfErr result (λ status. (checked : Checked) → Refused Never (quick_bars bars.now checked) (F.seen files.old) (F.seen files.new) status) }
+    ensures ready { IfOk result (λ text. (checked : Checked) → Follows checked program.now
+        → Has (quick_bars bars.now checked) (F.seen files.old) text) }
+    ensures refused { IfErr result (λ status. (checked : Checked)
+        → Refused Never (quick_bars bars.now checked) (F.seen files.old) (F.seen files.new) status) }
 {
     let name = named(alloc, bars)?;
     let bytes = read(alloc, files, &name, PRICE_LIMIT)?;
@@ -86,7 +87,7 @@ pub fn quick<F: Files>(
     files: &mut F,
 ) -> Result<Text8, Status>
     ensures only_read { OnlyRead (F.seen files.old) (F.seen files.new) }
-    ensures ready { IfOk result (λ text. WhereTold (F.seen files.old).told (λ held. Gives (quick_plan expert.now bars.now) held Status.Done text held)) }
+    ensures ready { IfOk result (Has (quick_plan expert.now bars.now) (F.seen files.old)) }
     ensures refused { IfErr result (Refused Never (quick_plan expert.now bars.now) (F.seen files.old) (F.seen files.new)) }
 {
     let name = named(alloc, expert)?;

@@ -1,10 +1,7 @@
 //! The top call.
-ghost use Rattle.std.specs.Prelude.{◌≡◌, ◌⊎◌, ℕ, [], ◌∷◌, ◌++◌, map, IfOk, IfErr};
-ghost use Rattle.std.specs.String.{string_bytes};
-ghost use Rattle.tester_io.specs.Outside.{WhereTold, Rose};
-ghost use Rattle.tester_answer.specs.Answer.{Gives};
-ghost use Rattle.tester_answer.specs.Clauses.{counts, Refuses, Refused, UsageRefused, AtJudgement, AtUnread, WroteWhole, WrotePart, WroteNothing, IsDoneOrMemory, HasDone};
-ghost use Rattle.tester_cli.specs.Commands.{quick_names, check_names, plan_of};
+ghost use Rattle.std.specs.Prelude.{◌≡◌, IfOk, IfErr};
+ghost use Rattle.tester_answer.specs.Clauses.{OnlyRead, Has, RefusedBy, IsRefused, AtJudgement, AtUnread, Wrote, Unwritten, NoMemory, Completes};
+ghost use Rattle.tester_cli.specs.Commands.{quick_names, check_names, plan_of, words_of};
 
 use crate::check::check;
 use crate::quick::quick;
@@ -19,8 +16,8 @@ use tester_io::{Files, Sink, WriteError};
 // What `quick` writes of these names, or why it writes nothing.
 fn run_quick<F: Files>(alloc: Global, names: &[String], files: &mut F) -> Result<Text8, Status>
     ensures only_read { OnlyRead (F.seen files.old) (F.seen files.new) }
-    ensures ready { IfOk result (λ text. WhereTold (F.seen files.old).told (λ held. Gives (quick_names (map string_bytes names.now)) held Status.Done text held)) }
-    ensures refused { IfErr result (Refused (UsageRefused (quick_names (map string_bytes names.now))) (quick_names (map string_bytes names.now)) (F.seen files.old) (F.seen files.new)) }
+    ensures ready { IfOk result (Has (quick_names (words_of names.now)) (F.seen files.old)) }
+    ensures refused { IfErr result (RefusedBy (quick_names (words_of names.now)) (F.seen files.old) (F.seen files.new)) }
 {
     if names.len() != 2 {
         return Err(Status::Usage(3));
@@ -34,8 +31,8 @@ fn run_quick<F: Files>(alloc: Global, names: &[String], files: &mut F) -> Result
 // What `check` writes of these names, or why it writes nothing.
 fn run_check<F: Files>(alloc: Global, names: &[String], files: &mut F) -> Result<Text8, Status>
     ensures only_read { OnlyRead (F.seen files.old) (F.seen files.new) }
-    ensures ready { IfOk result (λ text. WhereTold (F.seen files.old).told (λ held. Gives (check_names (map string_bytes names.now)) held Status.Done text held)) }
-    ensures refused { IfErr result (Refused (UsageRefused (check_names (map string_bytes names.now))) (check_names (map string_bytes names.now)) (F.seen files.old) (F.seen files.new)) }
+    ensures ready { IfOk result (Has (check_names (words_of names.now)) (F.seen files.old)) }
+    ensures refused { IfErr result (RefusedBy (check_names (words_of names.now)) (F.seen files.old) (F.seen files.new)) }
 {
     if names.len() != 1 {
         return Err(Status::Usage(3));
@@ -49,8 +46,8 @@ fn run_check<F: Files>(alloc: Global, names: &[String], files: &mut F) -> Result
 // What a command writes, or why it writes nothing.
 fn prepare<F: Files>(alloc: Global, words: &[String], files: &mut F) -> Result<Text8, Status>
     ensures only_read { OnlyRead (F.seen files.old) (F.seen files.new) }
-    ensures ready { IfOk result (λ text. WhereTold (F.seen files.old).told (λ held. Gives (plan_of (map string_bytes words.now)) held Status.Done text held)) }
-    ensures refused { IfErr result (Refused (UsageRefused (plan_of (map string_bytes words.now))) (plan_of (map string_bytes words.now)) (F.seen files.old) (F.seen files.new)) }
+    ensures ready { IfOk result (Has (plan_of (words_of words.now)) (F.seen files.old)) }
+    ensures refused { IfErr result (RefusedBy (plan_of (words_of words.now)) (F.seen files.old) (F.seen files.new)) }
 {
     match words {
         [] => Err(Status::Usage(2)),
@@ -77,32 +74,31 @@ pub fn run_single<F: Files, S: Sink>(
     out: &mut S,
 ) -> Status
     // At Done the sink gained a text that the plan has with Done, and the files are as the plan has them with it.
-    ensures done { result ≡ Status.Done → WhereTold (F.seen files.old).told (λ held. WhereTold (S.told out.old) (λ before.
-        WroteWhole (plan_of (map string_bytes words.now)) held before (S.told out.new) (F.seen files.new).told)) }
+    ensures done { result ≡ Status.Done → Wrote (plan_of (words_of words.now))
+        (F.seen files.old) (F.seen files.new) (S.seen out.old) (S.seen out.new) }
 
-    // At Usage to Grid the plan has that very status, the sink is as it was and no file changed; Usage is by the words alone.
-    ensures judged { AtJudgement result ((out.new ≡ out.old) × ((F.seen files.new).told ≡ (F.seen files.old).told)
-        × Refused (UsageRefused (plan_of (map string_bytes words.now))) (plan_of (map string_bytes words.now)) (F.seen files.old) (F.seen files.new) result) }
+    // At Usage to Grid the plan has that very status, the sink is as it was and no file changed; Usage is by the
+    // words alone.
+    ensures judged { AtJudgement result ((out.new ≡ out.old)
+        × IsRefused (plan_of (words_of words.now)) (F.seen files.old) (F.seen files.new) result) }
 
     // At Absent, ReadFault or TooLarge that count rose, and the plan reaches the reading of that name.
-    ensures unread { AtUnread result ((out.new ≡ out.old) × ((F.seen files.new).told ≡ (F.seen files.old).told)
-        × Refused (UsageRefused (plan_of (map string_bytes words.now))) (plan_of (map string_bytes words.now)) (F.seen files.old) (F.seen files.new) result) }
+    ensures unread { AtUnread result ((out.new ≡ out.old)
+        × IsRefused (plan_of (words_of words.now)) (F.seen files.old) (F.seen files.new) result) }
 
-    // At WriteFault the sink's count rose, and the sink gained a beginning of a text that the plan has with Done.
-    ensures unwritten { result ≡ Status.WriteFault → Rose (S.write_faults out.old) (S.write_faults out.new)
-        × ((F.seen files.new).told ≡ (F.seen files.old).told)
-        × WhereTold (F.seen files.old).told (λ held. WhereTold (S.told out.old) (λ before.
-        WrotePart (plan_of (map string_bytes words.now)) held before (S.told out.new))) }
+    // At WriteFault the sink's count rose, and the sink gained a beginning of a text that the plan has with Done; or
+    // that of the files rose, and the writing of a file of the plan was cut short.
+    ensures unwritten { result ≡ Status.WriteFault → Unwritten (plan_of (words_of words.now))
+        (F.seen files.old) (F.seen files.new) (S.seen out.old) (S.seen out.new) }
 
-    // At OutOfMemory it gained such a beginning, or nothing.
-    ensures memory { result ≡ Status.OutOfMemory → ((F.seen files.new).told ≡ (F.seen files.old).told)
-        × WhereTold (F.seen files.old).told (λ held. WhereTold (S.told out.old) (λ before.
-        WroteNothing before (S.told out.new) ⊎ WrotePart (plan_of (map string_bytes words.now)) held before (S.told out.new))) }
+    // At OutOfMemory nothing was written, or such a beginning, or the writing of such a file was cut short.
+    ensures memory { result ≡ Status.OutOfMemory → NoMemory (plan_of (words_of words.now))
+        (F.seen files.old) (F.seen files.new) (S.seen out.old) (S.seen out.new) }
 
-    // Where the plan has Done over what is told, and no fault of reading or writing was counted, all is done but for memory.
-    ensures complete { WhereTold (F.seen files.old).told (λ held. WhereTold (S.told out.old) (λ before.
-        HasDone (plan_of (map string_bytes words.now)) held → ¬ Rose (F.read_faults files.old) (F.read_faults files.new)
-        → ¬ Rose (S.write_faults out.old) (S.write_faults out.new) → IsDoneOrMemory result)) }
+    // Where the plan has Done over what is told, and no fault of reading or writing was counted, all is done but for
+    // memory.
+    ensures complete { Completes (plan_of (words_of words.now))
+        (F.seen files.old) (F.seen files.new) (S.seen out.old) (S.seen out.new) result }
 {
     files_have_one_answer();
     tokens_have_one_answer();

@@ -23,12 +23,12 @@ returns-in_err-_tree-clause-refused g c =
     let refused = rw c.in_ok-name.ensures at c.in_err-_tree.ensures.refused in
     let now = (g.F.Files.seen c.read_sources.new.files) in
     rw (p.1, p.2)
-    (behind_refused c.args.entry.now c.in_ok-sources.sources c.in_ok-sources.tokens (tree_plan c.args.entry.now check_tree) (g.F.Files.told c.args.files.now) (g.F.Files.seen c.args.files.now) now now
-    _ turns c.in_ok-sources.ensures.few makes c.in_ok-sources.ensures.none_fell c.in_ok-sources.ensures.same
+    (behind_refused c.args.entry.now c.in_ok-sources.sources c.in_ok-sources.tokens (tree_plan c.args.entry.now check_tree) (g.F.Files.seen c.args.files.now) now now
+    _ turns c.in_ok-sources.ensures.few makes c.in_ok-sources.ensures.only_read
     (tree_refused c.args.entry.now c.in_ok-sources.sources c.in_ok-sources.tokens check_tree now now _ refused))
 
 pub returns-clause-ready : goal.returns-clause-ready
 returns-clause-ready g c =
     let turns = rw c.in_ok-name.ensures at c.in_ok-sources.ensures.read in
     let makes = rw c.in_ok-name.ensures at c.in_ok-sources.ensures.tokens in
-    check_given c.args.entry.now c.in_ok-sources.sources c.in_ok-sources.tokens c.in_ok-_tree._tree (g.F.Files.told c.args.files.now) c.in_ok-text.text turns c.in_ok-sources.ensures.few makes c.in_ok-_tree.ensures.tree (c.in_ok-text.ensures ∙ c.as_slice.ensures)
+    check_given c.args.entry.now c.in_ok-sources.sources c.in_ok-sources.tokens c.in_ok-_tree._tree (g.F.Files.seen c.args.files.now).told c.in_ok-text.text turns c.in_ok-sources.ensures.few makes c.in_ok-_tree.ensures.tree (c.in_ok-text.ensures ∙ c.as_slice.ensures)

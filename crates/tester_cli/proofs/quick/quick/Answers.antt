@@ -21,8 +21,8 @@ returns-in_err-program-clause-refused g c =
     let refused = rw c.in_ok-name.ensures at c.in_err-program.ensures.refused in
     let now = (g.F.Files.seen c.read_sources.new.files) in
     rw (p.1, p.2)
-    (behind_refused c.args.expert.now c.in_ok-sources.sources c.in_ok-sources.tokens (quick_rest c.args.expert.now c.args.bars.now) (g.F.Files.told c.args.files.now) (g.F.Files.seen c.args.files.now) now now
-    _ turns c.in_ok-sources.ensures.few makes c.in_ok-sources.ensures.none_fell c.in_ok-sources.ensures.same
+    (behind_refused c.args.expert.now c.in_ok-sources.sources c.in_ok-sources.tokens (quick_rest c.args.expert.now c.args.bars.now) (g.F.Files.seen c.args.files.now) now now
+    _ turns c.in_ok-sources.ensures.few makes c.in_ok-sources.ensures.only_read
     (program_refused c.args.expert.now c.args.bars.now c.in_ok-sources.sources c.in_ok-sources.tokens now now _ refused))
 
 pub returns-clause-ready : goal.returns-clause-ready
@@ -32,8 +32,8 @@ returns-clause-ready g c =
     let p = c.in_ok-program.ensures.program in
     IfOk-weaker c.over_bars.result _ _
     (λ text ready held is.
-    (quick_leads c.args.expert.now c.args.bars.now c.in_ok-sources.sources c.in_ok-sources.tokens (g.F.Files.told c.args.files.now) c.in_ok-program.program p turns c.in_ok-sources.ensures.few makes).gives held is _ text held
-    (ready p.checked p.follows held (c.in_ok-sources.ensures.same ∙ is)))
+    (quick_leads c.args.expert.now c.args.bars.now c.in_ok-sources.sources c.in_ok-sources.tokens (g.F.Files.seen c.args.files.now).told c.in_ok-program.program p turns c.in_ok-sources.ensures.few makes).gives held is _ text held
+    (ready p.checked p.follows held (c.in_ok-sources.ensures.only_read.told ∙ is)))
     c.over_bars.ensures.ready
 
 pub returns-clause-refused : goal.returns-clause-refused
@@ -43,8 +43,8 @@ returns-clause-refused g c =
     let p = c.in_ok-program.ensures.program in
     IfErr-weaker c.over_bars.result _ _
     (λ status refused.
-    quick_refused c.args.expert.now c.args.bars.now c.in_ok-sources.sources c.in_ok-sources.tokens (g.F.Files.told c.args.files.now) (g.F.Files.seen c.args.files.now)
+    quick_refused c.args.expert.now c.args.bars.now c.in_ok-sources.sources c.in_ok-sources.tokens (g.F.Files.seen c.args.files.now)
     (g.F.Files.seen c.read_sources.new.files)
     (g.F.Files.seen c.over_bars.new.files)
-    status c.in_ok-program.program p turns c.in_ok-sources.ensures.few makes c.in_ok-sources.ensures.none_fell c.in_ok-sources.ensures.same (refused p.checked))
+    status c.in_ok-program.program p turns c.in_ok-sources.ensures.few makes c.in_ok-sources.ensures.only_read (refused p.checked))
     c.over_bars.ensures.refused
