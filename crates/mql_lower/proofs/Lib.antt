@@ -4,3 +4,4 @@ pub mod Whole
 pub mod Sim
 pub mod Sound
 pub mod Both
+pub mod OneRun

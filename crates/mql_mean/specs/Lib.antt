@@ -7,3 +7,4 @@ pub mod Apply
 pub mod Ask
 pub mod Means
 pub mod Types
+pub mod Talk

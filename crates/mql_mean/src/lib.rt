@@ -3,6 +3,7 @@
 
 mod error;
 mod host;
+mod law;
 mod shared;
 mod store;
 mod tree;
@@ -10,6 +11,7 @@ mod value;
 
 pub use error::{ErrorKind, RunError};
 pub use host::{Host, HostCall, HostEnd, Reply};
+pub use law::is_talk;
 pub use shared::meanings_may_be_shared;
 pub use store::{Frame, Store};
 pub use tree::{Checked, Entry, Expression, Function, Native, Operator, Statement, UnaryOperator};

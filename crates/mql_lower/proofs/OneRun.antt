@@ -1,0 +1,152 @@
+-- A call of an event over a world that answers as a function of what was asked has one end.
+use Rattle.std.proofs.Common.{◌≡◌, ℕ, ℤ, List, [], ◌∷◌, ◌++◌, refl, sym, ap, ◌∙◌, subst, append_assoc, append-nil, Bool, true, false}
+use Rattle.std.proofs.lemmas.List.{append_cancel_left}
+use Rattle.std.specs.Prelude.{nat_le}
+use Rattle.std.specs.Bool.{MatchBool}
+use Rattle.mql_mean.specs.declared.value.Value.{Value}
+use Rattle.mql_mean.specs.declared.error.ErrorKind.{ErrorKind}
+use Rattle.mql_mean.specs.declared.host.HostCall.{HostCall}
+use Rattle.mql_mean.specs.declared.store.Store.{Store}
+use Rattle.mql_mean.specs.declared.tree.Checked.{Checked}
+use Rattle.mql_mean.specs.declared.tree.Entry.{Entry}
+use Rattle.mql_mean.specs.Answer.{Answer}
+use Rattle.mql_mean.specs.World.{Ended, Returned, Stopped, world}
+use Rattle.mql_mean.specs.Means.{Outcome, outcome}
+use Rattle.mql_mean.specs.Talk.{Talk, Gives, Over, Asks, hear, MeansTalks}
+use Rattle.stack_vm.specs.declared.machine.End.{End}
+use Rattle.stack_vm.specs.declared.machine.End.TheVariants as end
+use Rattle.stack_vm.specs.Steps.{Turns, as_ended}
+use Rattle.mql_lower.specs.Follows.{Told}
+
+-- what the world answers, and what it is then, is a function of what was asked
+abbrev pub IsFunction : {H : Type 0} → (H → HostCall → Answer → H → Type 0) → Type 0
+IsFunction {H} may = (h : H) (call : HostCall) (a b : Answer) (to to' : H) → may h call a to → may h call b to' → (a ≡ b) × (to ≡ to')
+
+not_stopped : (e : End) → Stopped ≡ as_ended e → ⊥
+not_stopped (end.Returned value) p = cc
+not_stopped (end.Error error) p = cc
+not_stopped end.Exhausted p = cc
+
+one_end : (e e' : End) → as_ended e ≡ as_ended e' → e ≡ e'
+one_end (end.Returned value) (end.Returned other) p = cc
+one_end (end.Error error) (end.Error other) p =
+    let kind : error.kind ≡ other.kind = cc in
+    let line : error.line ≡ other.line = cc in
+    ap (λ (k : ErrorKind). end.Error (record { kind = k; line = error.line })) kind ∙ ap (λ (l : ℕ). end.Error (record { kind = other.kind; line = l })) line
+one_end end.Exhausted end.Exhausted p = refl
+one_end (end.Returned value) (end.Error other) p = cc
+one_end (end.Returned value) end.Exhausted p = cc
+one_end (end.Error error) (end.Returned other) p = cc
+one_end (end.Error error) end.Exhausted p = cc
+one_end end.Exhausted (end.Returned other) p = cc
+one_end end.Exhausted (end.Error other) p = cc
+
+-- the calls that were made stand first
+begins : (talk : Talk Value) (before : List HostCall) (rest : List Answer) → (more : List HostCall) × ((outcome (hear talk before rest)).world.calls ≡ before ++ more)
+begins (Gives a n store) before rest = ([], sym (append-nil before))
+begins (Over e n store) before rest = ([], sym (append-nil before))
+begins (Asks call n store onward) before [] = (call ∷ [], refl)
+begins (Asks call n store onward) before (answer ∷ rest) =
+    let b = begins (onward answer) (before ++ call ∷ []) rest in
+    (call ∷ b.0, b.1 ∙ append_assoc before (call ∷ []) b.0)
+
+-- an outcome of these
+abbrev over_with : Ended → ℕ → Store → List HostCall → List Answer → Outcome
+over_with e n store calls left = record { ended = e; left = n; world = world store calls left }
+
+-- an end: how a call ended, the steps left, its store, and the world after it
+record Left (H : Type 0) : Type 0 where
+  end : End
+  steps : ℕ
+  store : Store
+  world : H
+
+module _ {H : Type 0} (may : H → HostCall → Answer → H → Type 0) where
+  -- a talk over the world's answers, behind calls that were made before, has this end
+  record Hears (talk : Talk Value) (before : List HostCall) (h : H) (l : Left H) : Type 0 where
+    made : List HostCall
+    got : List Answer
+    turns : Turns may h made got l.world
+    is : outcome (hear talk before got) ≡ over_with (as_ended l.end) l.steps l.store (before ++ made) []
+
+  abbrev Same : Left H → Left H → Type 0
+  Same l l' = (l.end ≡ l'.end) × (l.steps ≡ l'.steps) × (l.store ≡ l'.store) × (l.world ≡ l'.world)
+
+  -- where a talk is over nothing more was asked
+  nothing_made : (h to : H) (made : List HostCall) (got : List Answer) → [] ≡ made → Turns may h made got to → h ≡ to
+  nothing_made h to [] [] e t = t
+  nothing_made h to [] (a ∷ got) e t = absurd t
+  nothing_made h to (c ∷ made) got e t = cc
+
+  no_more : (before made : List HostCall) → before ≡ before ++ made → [] ≡ made
+  no_more before made e = append_cancel_left before [] made (append-nil before ∙ e)
+
+  -- a talk that is over here: it made no call
+  over_once : (before : List HostCall) (h : H) (l l' : Left H) (made : List HostCall) (got : List Answer) (made' : List HostCall) (got' : List Answer) (left left' : List Answer)
+      → Turns may h made got l.world → Turns may h made' got' l'.world
+      → (store : Store) (n : ℕ) (e : Ended)
+      → over_with e n store before left ≡ over_with (as_ended l.end) l.steps l.store (before ++ made) []
+      → over_with e n store before left' ≡ over_with (as_ended l'.end) l'.steps l'.store (before ++ made') []
+      → Same l l'
+  over_once before h l l' made got made' got' left left' t t' store n e p q = (
+    one_end l.end l'.end (sym (ap (λ (o : Outcome). o.ended) p) ∙ ap (λ (o : Outcome). o.ended) q),
+    sym (ap (λ (o : Outcome). o.left) p) ∙ ap (λ (o : Outcome). o.left) q,
+    sym (ap (λ (o : Outcome). o.world.store) p) ∙ ap (λ (o : Outcome). o.world.store) q,
+    sym (nothing_made h l.world made got (no_more before made (ap (λ (o : Outcome). o.world.calls) p)) t)
+    ∙ nothing_made h l'.world made' got' (no_more before made' (ap (λ (o : Outcome). o.world.calls) q)) t',
+  )
+
+  -- the call that a talk asks first is the one that was made first
+  first_made : (talk : Talk Value) (call c : HostCall) (before made : List HostCall) (got : List Answer) (o : Outcome) → outcome (hear talk (before ++ call ∷ []) got) ≡ o → o.world.calls ≡ before ++ c ∷ made → call ≡ c
+  first_made talk call c before made got o is calls =
+      let b = begins talk (before ++ call ∷ []) got in
+      let all : before ++ (call ∷ b.0) ≡ before ++ (c ∷ made) = sym (append_assoc before (call ∷ []) b.0) ∙ sym b.1 ∙ ap (λ (o : Outcome). o.world.calls) is ∙ calls in
+      let same : call ∷ b.0 ≡ c ∷ made = append_cancel_left before (call ∷ b.0) (c ∷ made) all in
+      cc
+
+  module _ (function : IsFunction may) where
+    hears_once : (talk : Talk Value) (before : List HostCall) (h : H) (l l' : Left H) → Hears talk before h l → Hears talk before h l' → Same l l'
+    hears_once (Gives a n store) before h l l' p q = over_once before h l l' p.made p.got q.made q.got p.got q.got p.turns q.turns store n (Returned a) p.is q.is
+    hears_once (Over e n store) before h l l' p q = over_once before h l l' p.made p.got q.made q.got p.got q.got p.turns q.turns store n e p.is q.is
+    hears_once (Asks call n store onward) before h l l' p q = asks (λ a h l l' p q. hears_once (onward a) (before ++ call ∷ []) h l l' p q) p.made p.got q.made q.got p.turns q.turns p.is q.is
+      where
+        asks : ((a : Answer) (h : H) (l l' : Left H) → Hears (onward a) (before ++ call ∷ []) h l → Hears (onward a) (before ++ call ∷ []) h l' → Same l l')
+            → (made : List HostCall) (got : List Answer) (made' : List HostCall) (got' : List Answer) → Turns may h made got l.world → Turns may h made' got' l'.world
+            → outcome (hear (Asks call n store onward) before got) ≡ over_with (as_ended l.end) l.steps l.store (before ++ made) []
+            → outcome (hear (Asks call n store onward) before got') ≡ over_with (as_ended l'.end) l'.steps l'.store (before ++ made') []
+            → Same l l'
+        asks each made [] made' got' t t' p q = absurd (not_stopped l.end (ap (λ (o : Outcome). o.ended) p))
+        asks each made (a ∷ got) made' [] t t' p q = absurd (not_stopped l'.end (ap (λ (o : Outcome). o.ended) q))
+        asks each [] (a ∷ got) made' (b ∷ got') t t' p q = absurd t
+        asks each (c ∷ made) (a ∷ got) [] (b ∷ got') t t' p q = absurd t'
+        asks each (c ∷ made) (a ∷ got) (d ∷ made') (b ∷ got') t t' p q =
+            let first = first_made (onward a) call c before made got _ p refl in
+            let other = first_made (onward b) call d before made' got' _ q refl in
+            let one = function h call a b t.0 t'.0 (subst (λ x. may h x a t.0) (sym first) t.1) (subst (λ x. may h x b t'.0) (sym other) t'.1) in
+            each a t.0 l l'
+            (record {
+              made = made;
+              got = got;
+              turns = t.2;
+              is = p ∙ ap (λ calls. over_with (as_ended l.end) l.steps l.store calls []) (ap (λ x. before ++ x ∷ made) (sym first) ∙ sym (append_assoc before (call ∷ []) made));
+            })
+            (record {
+              made = made';
+              got = got';
+              turns = subst (λ m. Turns may m made' got' l'.world) (sym one.1) t'.2;
+              is = subst (λ x. outcome (hear (onward x) (before ++ call ∷ []) got') ≡ over_with (as_ended l'.end) l'.steps l'.store ((before ++ call ∷ []) ++ made') []) (sym one.0)
+              (q ∙ ap (λ calls. over_with (as_ended l'.end) l'.steps l'.store calls []) (ap (λ x. before ++ x ∷ made') (sym other) ∙ sym (append_assoc before (call ∷ []) made')));
+            })
+
+-- what a source means over such a world is one end
+module _ {H : Type 0} (may : H → HostCall → Answer → H → Type 0) (function : IsFunction may) (talks : MeansTalks) where
+  pub told_once : (checked : Checked) (entry : Entry) (arg : ℤ) (store : Store) (n : ℕ) (h h' h'' : H) (e e' : End) (store' store'' : Store) (n' n'' : ℕ)
+      → Told may checked entry arg store n h h' e store' n' → Told may checked entry arg store n h h'' e' store'' n''
+      → (e ≡ e') × (n' ≡ n'') × (store' ≡ store'') × (h' ≡ h'')
+  told_once checked entry arg store n h h' h'' e e' store' store'' n' n'' p q =
+      let t = talks checked entry arg n store in
+      let l : Left H = record { end = e; steps = n'; store = store'; world = h' } in
+      let l' : Left H = record { end = e'; steps = n''; store = store''; world = h'' } in
+      hears_once may function t.0 [] h l l'
+      (record { made = p.made; got = p.got; turns = p.turns; is = sym (t.1 [] p.got) ∙ p.holds })
+      (record { made = q.made; got = q.got; turns = q.turns; is = sym (t.1 [] q.got) ∙ q.holds })
