@@ -16,11 +16,7 @@ use Rattle.mql_mean.specs.Talk.{Talk, Gives, Over, Asks, hear, MeansTalks}
 use Rattle.stack_vm.specs.declared.machine.End.{End}
 use Rattle.stack_vm.specs.declared.machine.End.TheVariants as end
 use Rattle.stack_vm.specs.Steps.{Turns, as_ended}
-use Rattle.mql_lower.specs.Follows.{Told}
-
--- what the world answers, and what it is then, is a function of what was asked
-abbrev pub IsFunction : {H : Type 0} → (H → HostCall → Answer → H → Type 0) → Type 0
-IsFunction {H} may = (h : H) (call : HostCall) (a b : Answer) (to to' : H) → may h call a to → may h call b to' → (a ≡ b) × (to ≡ to')
+use Rattle.mql_lower.specs.Follows.{Told, IsFunction}
 
 not_stopped : (e : End) → Stopped ≡ as_ended e → ⊥
 not_stopped (end.Returned value) p = cc

@@ -26,3 +26,8 @@ pub record Follows (checked : Checked) (code : Code) : Type 0 where
 -- and steps left with these answers
 abbrev pub Told : {H : Type 0} → (H → HostCall → Answer → H → Type 0) → Checked → Entry → ℤ → Store → ℕ → H → H → End → Store → ℕ → Type 0
 Told may checked entry arg store n h h' e store' n' = Over may h h' (λ made got. means checked entry arg n (world store [] got) ≡ record { ended = as_ended e; left = n'; world = world store' made [] })
+
+-- what a world answers, and what it is then, is a function of what was asked
+abbrev pub IsFunction : {H : Type 0} → (H → HostCall → Answer → H → Type 0) → Type 0
+IsFunction {H} may = (h : H) (call : HostCall) (a b : Answer) (to to' : H)
+    → may h call a to → may h call b to' → (a ≡ b) × (to ≡ to')

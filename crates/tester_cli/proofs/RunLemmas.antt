@@ -22,30 +22,33 @@ use Rattle.mql_preproc.specs.declared.source.Source.{Source}
 use Rattle.mql_preproc.specs.Reading.{Preprocesses}
 use Rattle.mql_parse.specs.Parsed.{Parsing}
 use Rattle.mql_level.specs.Level.{program}
+use Rattle.mql_mean.specs.Talk.{MeansTalks}
+use Rattle.tester_cli.proofs.OneReport.{reports_once}
 use Rattle.tester_sources.specs.Reading.{Tokens, most_files, never, program_plan, ReadInTurn, OneAnswer}
 use Rattle.tester_sources.specs.Judging.{tree_plan, OneTree}
 use Rattle.tester_sources.proofs.SourceLemmas.{read_leads}
 use Rattle.tester_sources.proofs.JudgeLemmas.{program_lead, tree_leads, form_leads, tree_refused, form_refused, program_one, tree_one, with_program_one}
 
-reports_one : (checked : Checked) (bars : List Bar) → OneEnd (Ends (reports checked bars))
-reports_one checked bars held s s' text text' after after' g g' = g.0 ∙ sym g'.0
+-- over files that have one answer of preprocessing, tokens that have one of the parser, and sources whose meaning is a talk with the world
+module _ (one : OneAnswer) (alone : OneTree) (talks : MeansTalks) where
+  reports_one : (checked : Checked) (bars : List Bar) → OneEnd (Ends (reports checked bars))
+  reports_one checked bars held s s' text text' after after' g g' =
+      (g.0 ∙ sym g'.0, reports_once talks checked bars text text' g.1 g'.1, g.2 ∙ sym g'.2)
 
-bars_one : (name : List ℕ) (checked : Checked) (found : Option (List Bar)) → OneEnd (with_bars name found (λ rows. Ends (reports checked rows)))
-bars_one name checked None = refuses_one (Prices name 0 10)
-bars_one name checked (Some bars) = reports_one checked bars
+  bars_one : (name : List ℕ) (checked : Checked) (found : Option (List Bar)) → OneEnd (with_bars name found (λ rows. Ends (reports checked rows)))
+  bars_one name checked None = refuses_one (Prices name 0 10)
+  bars_one name checked (Some bars) = reports_one checked bars
 
-bars_read_one : (bars : List ℕ) (checked : Checked) → OneEnd (quick_bars bars checked)
-bars_read_one bars checked = reads_one bars price_limit (λ bytes. with_bars bars (bars_of bytes) (λ rows. Ends (reports checked rows))) (λ bytes. bars_one bars checked (bars_of bytes))
+  bars_read_one : (bars : List ℕ) (checked : Checked) → OneEnd (quick_bars bars checked)
+  bars_read_one bars checked = reads_one bars price_limit (λ bytes. with_bars bars (bars_of bytes) (λ rows. Ends (reports checked rows))) (λ bytes. bars_one bars checked (bars_of bytes))
 
--- over files that have one answer of preprocessing, and tokens that have one of the parser
-module _ (one : OneAnswer) (alone : OneTree) where
   quick_one : (expert bars : List ℕ) → OneEnd (quick_plan expert bars)
   quick_one expert bars =
       program_one one expert (quick_rest expert bars)
       (λ sources tokens. tree_one alone expert sources tokens (quick_tree expert bars) (λ tree. with_program_one expert sources tokens (quick_bars bars) (λ checked. bars_read_one bars checked) (program tokens tree)))
 
   said_one : (words : List ℕ) → OneEnd (Ends (says words))
-  said_one words held s s' text text' after after' g g' = g.0 ∙ sym g'.0
+  said_one words held s s' text text' after after' g g' = (g.0 ∙ sym g'.0, g.1 ∙ sym g'.1, g.2 ∙ sym g'.2)
 
   check_one : (entry : List ℕ) → OneEnd (check_plan entry)
   check_one entry = program_one one entry (tree_plan entry check_tree) (λ sources tokens. tree_one alone entry sources tokens check_tree (λ tree. said_one (codes "ok" ++ 10 ∷ [])))

@@ -3,6 +3,7 @@
 
 mod check;
 pub mod compiler;
+mod law;
 pub mod pass;
 mod quick;
 mod report;
@@ -11,5 +12,6 @@ mod run;
 mod time;
 pub mod world;
 
+pub use law::one_answer;
 pub use run::run_single;
 pub use tester_answer::{SourceFault, Status, fault_text};

@@ -6,6 +6,7 @@ ghost use Rattle.tester_cli.specs.Commands.{quick_names, check_names, plan_of, w
 use crate::check::check;
 use crate::quick::quick;
 use fx8::Text8;
+use mql_mean::is_talk;
 use mql_parse::one_answer as tokens_have_one_answer;
 use mql_preproc::one_answer as files_have_one_answer;
 use std::alloc::Global;
@@ -102,6 +103,7 @@ pub fn run_single<F: Files, S: Sink>(
 {
     files_have_one_answer();
     tokens_have_one_answer();
+    is_talk();
     match prepare(alloc, words, files) {
         Err(status) => status,
         Ok(text) => match write_whole(out, text.as_slice()) {
