@@ -1,8 +1,6 @@
 -- A call of an event over a world that answers as a function of what was asked has one end.
-use Rattle.std.proofs.Common.{◌≡◌, ℕ, ℤ, List, [], ◌∷◌, ◌++◌, refl, sym, ap, ◌∙◌, subst, append_assoc, append-nil, Bool, true, false}
+use Rattle.std.proofs.Common.{◌≡◌, ℕ, ℤ, List, [], ◌∷◌, ◌++◌, refl, sym, ap, ◌∙◌, subst, append_assoc, append-nil}
 use Rattle.std.proofs.lemmas.List.{append_cancel_left}
-use Rattle.std.specs.Prelude.{nat_le}
-use Rattle.std.specs.Bool.{MatchBool}
 use Rattle.mql_mean.specs.declared.value.Value.{Value}
 use Rattle.mql_mean.specs.declared.error.ErrorKind.{ErrorKind}
 use Rattle.mql_mean.specs.declared.host.HostCall.{HostCall}
@@ -89,7 +87,7 @@ module _ {H : Type 0} (may : H → HostCall → Answer → H → Type 0) where
     sym (ap (λ (o : Outcome). o.left) p) ∙ ap (λ (o : Outcome). o.left) q,
     sym (ap (λ (o : Outcome). o.world.store) p) ∙ ap (λ (o : Outcome). o.world.store) q,
     sym (nothing_made h l.world made got (no_more before made (ap (λ (o : Outcome). o.world.calls) p)) t)
-    ∙ nothing_made h l'.world made' got' (no_more before made' (ap (λ (o : Outcome). o.world.calls) q)) t',
+        ∙ nothing_made h l'.world made' got' (no_more before made' (ap (λ (o : Outcome). o.world.calls) q)) t',
   )
 
   -- the call that a talk asks first is the one that was made first
@@ -131,7 +129,7 @@ module _ {H : Type 0} (may : H → HostCall → Answer → H → Type 0) where
               got = got';
               turns = subst (λ m. Turns may m made' got' l'.world) (sym one.1) t'.2;
               is = subst (λ x. outcome (hear (onward x) (before ++ call ∷ []) got') ≡ over_with (as_ended l'.end) l'.steps l'.store ((before ++ call ∷ []) ++ made') []) (sym one.0)
-              (q ∙ ap (λ calls. over_with (as_ended l'.end) l'.steps l'.store calls []) (ap (λ x. before ++ x ∷ made') (sym other) ∙ sym (append_assoc before (call ∷ []) made')));
+                  (q ∙ ap (λ calls. over_with (as_ended l'.end) l'.steps l'.store calls []) (ap (λ x. before ++ x ∷ made') (sym other) ∙ sym (append_assoc before (call ∷ []) made')));
             })
 
 -- what a source means over such a world is one end

@@ -2,11 +2,11 @@
 use Rattle.std.proofs.Common.{◌≡◌, ℕ, Bool, true, false, List, [], length, Option, Some, None, sym, subst, ◌∙◌}
 use Rattle.std.specs.Prelude.{nat_lt}
 use Rattle.std.specs.Bool.{MatchBool}
-use Rattle.tester_io.specs.Outside.{Contents, FilesSeen, SinkSeen, Rose, holding}
+use Rattle.tester_io.specs.Outside.{Contents, FilesSeen, SinkSeen, Rose}
 use Rattle.tester_answer.specs.declared.status.Status.{Status}
 use Rattle.tester_answer.specs.declared.status.Status.TheVariants.{Done, Usage, Source, Settings, Prices, CodeFile, Grid, Absent, ReadFault, WriteFault, TooLarge, OutOfMemory}
-use Rattle.tester_answer.specs.Answer.{Plan, Reads, Finds, Writes, AfterReading, Gives, OneEnd, refusal, refuses}
-use Rattle.tester_answer.specs.Clauses.{Refused, UsageRefused, HasDone, NoFault, IsDoneOrMemory, Completes}
+use Rattle.tester_answer.specs.Answer.{Plan, Reads, Finds, AfterReading, Gives, OneEnd, refusal, refuses}
+use Rattle.tester_answer.specs.Clauses.{Refused, UsageRefused, HasDone, IsDoneOrMemory, Completes}
 
 refusal_one : (status : Status) (held : Contents) (s s' : Status) (text text' : List ℕ) (after after' : Contents) → refusal status held s text after → refusal status held s' text' after' → (s ≡ s') × (text ≡ text') × (after ≡ after')
 refusal_one status held s s' text text' after after' g g' = (g.0 ∙ sym g'.0, g.1 ∙ sym g'.1, g.2 ∙ sym g'.2)

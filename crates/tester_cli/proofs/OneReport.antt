@@ -1,14 +1,10 @@
 -- A source has one report over bars.
-use Rattle.std.proofs.Common.{◌≡◌, ℕ, ℤ, pos, Bool, true, false, List, [], ◌∷◌, ◌++◌, ◌+◌, ◌/◌, ◌%◌, Option, Some, None, refl, sym, ap, ◌∙◌, subst}
+use Rattle.std.proofs.Common.{◌≡◌, ℕ, ℤ, pos, Bool, true, false, List, [], ◌∷◌, ◌++◌, ◌+◌, ◌/◌, ◌%◌, Option, Some, None, sym, ap, ◌∙◌, subst}
 use Rattle.std.specs.Prelude.{nat_le, unsigned_abs}
 use Rattle.std.specs.Bool.{MatchBool}
-use Rattle.jiff_core.specs.declared.civil.date.Date.{Date}
 use Rattle.jiff_core.proofs.DateLemmas.{epoch_day_injective}
 use Rattle.mql_mean.specs.declared.tree.Checked.{Checked}
 use Rattle.mql_mean.specs.declared.tree.Entry.TheVariants.{Tick}
-use Rattle.mql_mean.specs.declared.host.HostCall.{HostCall}
-use Rattle.mql_mean.specs.declared.store.Store.{Store}
-use Rattle.mql_mean.specs.Answer.{Answer}
 use Rattle.mql_mean.specs.Means.{event}
 use Rattle.mql_mean.specs.Talk.{MeansTalks}
 use Rattle.stack_vm.specs.Valid.{is_some}
@@ -17,13 +13,12 @@ use Rattle.mql_lower.proofs.OneRun.{told_once}
 use Rattle.market_types.specs.declared.bar.Bar.{Bar}
 use Rattle.market_types.specs.declared.quote.Quote.{Quote}
 use Rattle.tester_cli.specs.declared.result.PassEnd.{PassEnd}
-use Rattle.tester_cli.specs.declared.result.PassEnd.TheVariants as end
 use Rattle.tester_cli.specs.declared.result.PassResult.{PassResult}
 use Rattle.tester_cli.specs.declared.result.Printed.{Printed}
 use Rattle.tester_cli.specs.Times.{IsTimeText, date_text, clock_text}
 use Rattle.tester_cli.specs.Report.{IsPrintLine, ArePrintLines, IsReport, report_head, shown_text}
-use Rattle.tester_cli.specs.Journal.{TesterState, TesterStep, PrintStep, printed_text, with_print, void_reply, journal_bytes, line_bytes}
-use Rattle.tester_cli.specs.Pass.{Stage, ends_here, pass_end, at_time, silent, loud, CallsTick, Takes, GoesOn, PassesFrom, Passes, first_stage}
+use Rattle.tester_cli.specs.Journal.{TesterStep, printed_text, journal_bytes, line_bytes}
+use Rattle.tester_cli.specs.Pass.{Stage, pass_end, at_time, loud, CallsTick, Takes, GoesOn, PassesFrom, first_stage}
 use Rattle.tester_cli.specs.Commands.{Reports}
 
 -- a choice by one test

@@ -82,5 +82,5 @@ plan_of (command ∷ names) =
     (chosen (bytes_eq command (codes "check")) (check_names names) (refuses (Usage 2)))
 
 -- the words of a command line as bytes
-abbrev pub words_of : List String → List (List ℕ)
+abbrev pub words_of : {A : Type 0} → List (String A) → List (List ℕ)
 words_of words = map string_bytes words

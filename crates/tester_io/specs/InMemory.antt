@@ -1,5 +1,5 @@
 -- What is seen of the files and the sinks in memory.
-use Rattle.std.specs.Prelude.{ℕ, min, List, length, Option, Some, Result, Err, if◌then◌else◌}
+use Rattle.std.specs.Prelude.{ℕ, min, List, length, Some, Result, Err, if◌then◌else◌}
 use Rattle.tester_io.specs.declared.fault.FileFault.{FileFault}
 use Rattle.tester_io.specs.declared.fault.FileFault.TheVariants.{Failed}
 use Rattle.tester_io.specs.declared.memory.MemFiles.{MemFiles}

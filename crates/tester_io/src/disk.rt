@@ -106,11 +106,11 @@ impl<R: FileSystem> DiskFiles<R> {
 
 impl<R: FileSystem> Files for DiskFiles<R> {
     ghost seen = { λ files. record {
-        told = None;
-        absents = files.absents;
-        read_faults = files.read_faults;
-        oversizes = files.oversizes;
-        write_faults = files.write_faults;
+      told = None;
+      absents = files.absents;
+      read_faults = files.read_faults;
+      oversizes = files.oversizes;
+      write_faults = files.write_faults;
     } };
 
     fn read_all(&mut self, name: &Text8, limit: u64) -> Result<Text8, FileFault> {

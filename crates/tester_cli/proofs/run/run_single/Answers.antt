@@ -1,7 +1,5 @@
-use Rattle.std.proofs.Common.{Some, Err, take, length, inl, inr, ap, sym, ◌∙◌, refl}
-use Rattle.std.proofs.lemmas.List.{take_all}
 use Rattle.tester_cli.specs.Commands.{plan_of, words_of}
-use Rattle.tester_cli.proofs.RunLemmas.{plan_one, wrote, began}
+use Rattle.tester_cli.proofs.RunLemmas.{plan_one}
 use Rattle.tester_answer.proofs.OneEnd.{refused_completes}
 use Rattle.tester_cli.proofs.run.run_single.Goals as goal
 
