@@ -1,7 +1,7 @@
 -- The texts that the program writes. Own.
 use Rattle.std.specs.Prelude.{ℕ, List, [], ◌∷◌, ◌++◌, codes}
 use Rattle.std.specs.Fmt.{decimal}
-use Rattle.tester_answer.specs.declared.status.SourceFault.{SourceFault}
+use Rattle.mql_source.specs.declared.fault.SourceFault.{SourceFault}
 use Rattle.tester_answer.specs.declared.status.Status.{Status}
 use Rattle.tester_answer.specs.declared.status.Status.TheVariants.{Done, Usage, Source, Settings, Prices, CodeFile, Grid, Absent, ReadFault, WriteFault, TooLarge, OutOfMemory}
 

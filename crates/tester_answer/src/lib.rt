@@ -5,4 +5,5 @@ pub mod outside;
 pub mod status;
 pub mod text;
 
-pub use status::{SourceFault, Status, fault_text};
+pub use mql_source::SourceFault;
+pub use status::{Status, fault_text};

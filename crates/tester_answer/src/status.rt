@@ -5,20 +5,8 @@ ghost use Rattle.tester_answer.specs.Texts.{status_number, fields_line, fault_li
 
 use crate::text::{push_field, push_number_field};
 use fx8::{OutOfMemory, Text8};
+use mql_source::SourceFault;
 use std::alloc::Global;
-
-/// Where a source breaks a rule.
-#[derive(Debug, Drop)]
-pub struct SourceFault {
-    /// 1 text, 2 token, 3 preprocessing, 4 tree, 5 declaration, 6 typing; 7 a form that is not built yet.
-    pub stage: u8,
-    /// The number of the rule of that stage.
-    pub rule: u8,
-    /// The name of the source.
-    pub file: Text8,
-    /// The line of the place, from 1; 0 where it has none.
-    pub line: u32,
-}
 
 /// How a run of a command ends. The program exits with the number of the status.
 #[derive(Debug, Drop)]

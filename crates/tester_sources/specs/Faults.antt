@@ -8,7 +8,7 @@ use Rattle.mql_tree.specs.declared.token.Span.{Span}
 use Rattle.mql_preproc.specs.declared.source.Source.{Source}
 use Rattle.mql_preproc.specs.declared.fault.PreFault.{PreFault}
 use Rattle.mql_preproc.specs.declared.fault.PreFault.TheVariants.{Need, BadDirective, UnclosedIf, MacroArity, Depth, TooManyTokens, TooManyFiles, Lex, OutOfMemory}
-use Rattle.tester_answer.specs.declared.status.SourceFault.{SourceFault}
+use Rattle.mql_source.specs.declared.fault.SourceFault.{SourceFault}
 use Rattle.tester_answer.specs.declared.status.Status.{Status}
 use Rattle.tester_answer.specs.declared.status.Status.TheVariants as status
 

@@ -9,7 +9,7 @@ use Rattle.mql_parse.specs.declared.fault.ParseFault.TheVariants as parsing
 use Rattle.mql_parse.specs.Parsed.{Parsing}
 use Rattle.mql_level.specs.Level.{program}
 use Rattle.mql_mean.specs.declared.tree.Checked.{Checked}
-use Rattle.tester_answer.specs.declared.status.SourceFault.{SourceFault}
+use Rattle.mql_source.specs.declared.fault.SourceFault.{SourceFault}
 use Rattle.tester_answer.specs.declared.status.Status.{Status}
 use Rattle.tester_answer.specs.declared.status.Status.TheVariants as status
 use Rattle.tester_answer.specs.Answer.{Plan, Finds, refuses}
