@@ -1,5 +1,5 @@
 -- A row of trees, and the list that it holds.
-use Rattle.std.proofs.Common.{◌≡◌, ℕ, List, ◌∷◌, refl, ap, ◌∙◌}
+use Rattle.std.proofs.Common.{◌≡◌, List, ◌∷◌, refl, ap, ◌∙◌}
 use mathlib.Core.Former.{Count}
 use Rattle.mql_forms.specs.declared.form.Form.{Form}
 use Rattle.mql_tree.specs.declared.token.Tree.{Tree, Node', Row_of-Tree, end_of-Tree, more_of-Tree, items-the_row-Tree, items_hidden-the_row-Tree-0}

@@ -64,13 +64,13 @@ module _ (tokens : List (Token × Span)) (scope : Scope) where
   not_number : (sign : mark.Sign) (t : Tree) → stands tokens scope (Sign sign) t ≡ true → stands tokens scope Number t ≡ false
   unfolding stands has_sign
   not_number sign (Leaf k) h = not_operand scope sign (token_at tokens k) h
-  not_number sign (Node' form row parts) h = node_sign h
+  not_number sign (Node' _ row parts) h = node_sign h
     where
       node_sign : has_sign sign None ≡ true → true ≡ false
       node_sign h = cc
 
   -- as many numbers are read as there are places of numbers
-  count_good : (os : List (Option ℕ)) (ts : List Tree) → stand tokens scope (shape os) ts ≡ true → Good (λ es. length es ≡ counted os) (numbers_in tokens scope ts)
+  count_good : (os : List (Option mark.Sign)) (ts : List Tree) → stand tokens scope (shape os) ts ≡ true → Good (λ es. length es ≡ counted os) (numbers_in tokens scope ts)
   unfolding numbers_in
   count_good [] [] h = refl
   count_good [] (t ∷ ts) h = cc

@@ -16,7 +16,7 @@ or_else None other = other
 abbrev mutual
   pub first : Tree → Option ℕ
   first (Leaf k) = Some k
-  first (Node' form row parts) = first_among parts
+  first (Node' _ row parts) = first_among parts
 
   pub first_among : {m : _} → Row_of-Tree m → Option ℕ
   first_among end_of-Tree = None
@@ -35,7 +35,7 @@ list_of (more_of-Tree t ts) = t ∷ list_of ts
 -- a node, and a node that is a statement
 abbrev pub is_node : Tree → Bool
 is_node (Leaf k) = false
-is_node (Node' form row parts) = true
+is_node (Node' _ row parts) = true
 
 unfoldable pub states : NodeKind → Bool
 states Block = true
@@ -62,7 +62,7 @@ module _ (tokens : List (Token × Span)) where
   -- the token of a leaf; a node has none, and neither has a leaf whose place is not one of the tokens
   abbrev pub leaf : Tree → Option Token
   leaf (Leaf k) = token_at k
-  leaf (Node' form row parts) = None
+  leaf (Node' _ row parts) = None
 
   -- the line of a place, and 0 where there is none
   abbrev pub line_at : Option (Token × Span) → ℕ

@@ -60,7 +60,7 @@ module _ (tokens : List (Token × Span)) where
   unfoldable pub is_on_tick : List Tree → Bool
   is_on_tick parts =
       stand tokens no_locals (Reserved words.Void ∷ Known known.OnTick
-          ∷ Sign signs.ParenthesisOpen ∷ Sign signs.ParenthesisClose ∷ Node ∷ []) parts
+      ∷ Sign signs.ParenthesisOpen ∷ Sign signs.ParenthesisClose ∷ Node ∷ []) parts
 
   abbrev pub function_at : NodeKind → List Tree → Option ℕ → Read Sequence
   function_at node.Item parts place = if is_on_tick parts then body (slice_get parts 4) else Err place

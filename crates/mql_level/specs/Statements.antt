@@ -89,7 +89,7 @@ module _ (tokens : List (Token × Span)) where
   unfoldable pub is_declaration : Scope → List Tree → Bool
   is_declaration scope parts =
       stand tokens scope (Reserved words.Int ∷ NewName ∷ Sign signs.Assign ∷ Number
-          ∷ Sign signs.Semicolon ∷ []) parts
+      ∷ Sign signs.Semicolon ∷ []) parts
 
   -- an assignment or a call, and `;`
   unfoldable pub is_evaluation : Scope → List Tree → Bool
@@ -103,7 +103,7 @@ module _ (tokens : List (Token × Span)) where
   unfoldable pub is_governed : ReservedWord → Scope → List Tree → Bool
   is_governed word scope parts =
       stand tokens scope (Reserved word ∷ Sign signs.ParenthesisOpen ∷ Condition
-          ∷ Sign signs.ParenthesisClose ∷ AnyStatement ∷ []) parts
+      ∷ Sign signs.ParenthesisClose ∷ AnyStatement ∷ []) parts
 
   -- `;`
   abbrev pub is_empty : Scope → List Tree → Bool
@@ -159,7 +159,7 @@ module _ (tokens : List (Token × Span)) where
   assignment scope line parts place =
       if is_assignment scope parts
       then (there (local_at scope (slice_get parts 0)) place λ local.
-          number_at scope (slice_get parts 2) >>= λ e. Ok (statements.Assign line local e))
+      number_at scope (slice_get parts 2) >>= λ e. Ok (statements.Assign line local e))
       else Err place
 
   -- a call of `Print`
@@ -191,7 +191,7 @@ module _ (tokens : List (Token × Span)) where
   unfoldable pub declaration : Scope → ℕ → List Tree → Option ℕ → Read Stated
   declaration scope line parts place =
       there (name_at (slice_get parts 1)) place λ name. number_at scope (slice_get parts 3) >>= λ e.
-          Ok (statements.Assign line (length scope.names) e, declared scope name)
+      Ok (statements.Assign line (length scope.names) e, declared scope name)
 
   -- the condition at a place among parts; the forms that ask for one have that place
   abbrev pub condition_of : Scope → Option Tree → Read Expression

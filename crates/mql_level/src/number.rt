@@ -4,11 +4,11 @@ ghost use Rattle.mql_level.specs.Read.{Answers};
 ghost use Rattle.mql_level.specs.Leaves.{leaf};
 ghost use Rattle.mql_level.specs.Numbers.{is_joined, of_product, of_sum, of_relation, of_equality, bracketed, negated, map_joined, number_form, comparison_form, operand_of, leaf_number, truth, formed, sole, number, numbers_in, condition};
 
+use crate::LevelFault;
 use crate::form::{NodeKind, node_kind};
 use crate::leaf::first;
 use crate::part::{Part, is_word, literal_of, local_of, stand, stands};
 use crate::scope::Scope;
-use crate::LevelFault;
 use fx8::{IntKind, IntOperator, ItemList};
 use mql_mean::{Expression, Operator, UnaryOperator};
 use mql_spelling::{ReservedWord, Sign};

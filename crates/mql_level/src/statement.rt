@@ -4,13 +4,13 @@ ghost use Rattle.std.specs.Option.{option_copied};
 ghost use Rattle.mql_level.specs.Read.{Answers};
 ghost use Rattle.mql_level.specs.Statements.{are_inside, is_block, are_arguments, is_print, is_declaration, is_evaluation, is_assignment, is_governed, simple_form, form_if, statement_form, argument, arguments, number_at, local_at, name_at, assignment, print, evaluation, evaluated, declaration, condition_of, is_empty, statement, sequence_in};
 
+use crate::LevelFault;
 use crate::form::{NodeKind, node_kind};
 use crate::leaf::{first, is_statement, line_of, parted};
 use crate::number::{condition, number};
 use crate::part::{Part, local_of, name_in, stand, stands, text_of};
 use crate::scope::{Scope, short};
 use crate::word::KnownName;
-use crate::LevelFault;
 use fx8::{ItemList, Text};
 use mql_mean::{Expression, Native, Statement};
 use mql_spelling::{ReservedWord, Sign};
