@@ -60,7 +60,8 @@ body_in ss d = BodyAt (Has d) (Holds d) (Labelled d) ss
 
 -- texts and constants stay, and functions are the same
 pub record Keeps (old new : Code) : Type 0 where
-  pub texts : (number : ℕ) (s : List ℕ) → slice_get old.texts number ≡ Some s → slice_get new.texts number ≡ Some s
+  pub texts : (number : ℕ) (s : List ℕ) → slice_get old.texts number ≡ Some s
+      → slice_get new.texts number ≡ Some s
   pub constants : (number : ℕ) (v : Value) → constant_of old number ≡ Some v → constant_of new number ≡ Some v
 
 -- what stands stays, and labels that are set
@@ -73,7 +74,8 @@ pub record Later (old new : Draft) : Type 0 where
 -- all that is there stays, also labels that are not set
 pub record Grown (old new : Draft) : Type 0 where
   pub instructions : (pc : ℕ) (i : Instruction) → Has old pc i → Has new pc i
-  pub labels : (label : ℕ) (o : Option ℕ) → slice_get old.labels label ≡ Some o → slice_get new.labels label ≡ Some o
+  pub labels : (label : ℕ) (o : Option ℕ) → slice_get old.labels label ≡ Some o
+      → slice_get new.labels label ≡ Some o
   pub code : Keeps old.code new.code
   pub functions : new.code.functions ≡ old.code.functions
 
@@ -103,7 +105,9 @@ pub record NewLabel (label : ℕ) (old new : Draft) : Type 0 where
 
 -- a label got its place: the next instruction's
 abbrev pub SetLabel : ℕ → Draft → Draft → Type 0
-SetLabel label old new = new ≡ record old { labels = slice_set old.labels label (Some (length old.instructions)) }
+SetLabel label old new = new ≡ record old {
+  labels = slice_set old.labels label (Some (length old.instructions));
+}
 
 -- the labels of finished code
 abbrev pub place_of : Option ℕ → Label
@@ -124,7 +128,15 @@ pub record Compiles (f : Function) (old new : Code) : Type 0 where
 
 -- the entries of lowered code
 abbrev pub entries : Option ℕ → Option ℕ → Option ℕ → Entries
-entries start tick stop = record { start = start; init = None; tick = tick; trade = None; tester = None; deinit = None; stop = stop }
+entries start tick stop = record {
+  start = start;
+  init = None;
+  tick = tick;
+  trade = None;
+  tester = None;
+  deinit = None;
+  stop = stop;
+}
 
 -- the number of a function that is there
 abbrev pub there : ℕ → Option ℕ → Option ℕ
@@ -146,4 +158,5 @@ all_functions checked = checked.functions ++ nothing ∷ nothing ∷ []
 -- the code of a whole program: a code for each function, and the entries that name them
 pub record Compiled (checked : Checked) (code : Code) : Type 0 where
   pub each : EachFor code (all_functions checked) code.functions
-  pub entries : code.entries ≡ entries (Some (length checked.functions)) (there (length checked.functions) checked.tick) (Some (length checked.functions + 1))
+  pub entries : code.entries ≡ entries (Some (length checked.functions))
+      (there (length checked.functions) checked.tick) (Some (length checked.functions + 1))

@@ -58,14 +58,15 @@ module _ (Has : ℕ → Instruction → Type 0) (Holds : ℕ → Value → Type 
   StuckIf true = Constant void_value ▷ One (op.Plain ef.Read)
   StuckIf false = Nothing
 
-  -- arguments from left to right, and then the operator or the call; a void call in the place of a value has none, and an
-  -- operator takes as many operands as it has
+  -- arguments from left to right, and then the operator or the call; a void call in the place of a value has
+  -- none, and an operator takes as many operands as it has
   abbrev mutual
     pub ExpressionAt : Expression → Span
     ExpressionAt (Text s) = Constant (Str s)
     ExpressionAt (Number k x) = Constant (Num k x)
     ExpressionAt (Local local) = One (op.Plain (ef.Local local)) ▷ One (op.Plain ef.Read)
-    ExpressionAt (Apply' o k row args) = RowAt args ▷ StuckIf (not (count args == arity o)) ▷ One (op.Plain (ef.Apply o k))
+    ExpressionAt (Apply' o k row args) =
+        RowAt args ▷ StuckIf (not (count args == arity o)) ▷ One (op.Plain (ef.Apply o k))
     ExpressionAt (Native' native row args) = RowAt args ▷ One (op.Native native (count args))
 
     pub RowAt : {m : _} → Row_of-Expression m → Span
@@ -87,9 +88,15 @@ module _ (Has : ℕ → Instruction → Type 0) (Holds : ℕ → Value → Type 
     StatementAt (Empty line) = One (op.Plain (ef.Line line))
     StatementAt (Block' line row body) = One (op.Plain (ef.Line line)) ▷ StatementsAt body
     StatementAt (Evaluate line e) = One (op.Plain (ef.Line line)) ▷ ExpressionAt e ▷ LetGo (is_void e)
-    StatementAt (Assign line local e) = One (op.Plain (ef.Line line)) ▷ ValueAt e ▷ One (op.Plain (ef.Local local)) ▷ One (op.Plain ef.Write)
-    StatementAt (If' line e row body) = WithLabel λ out. (One (op.Plain (ef.Line line)) ▷ ValueAt e ▷ One (op.Unless out) ▷ StatementsAt body) ▷ Here out
-    StatementAt (While' line e row body) = WithLabel λ out. (One (op.Plain (ef.Line line)) ▷ WithLabel λ top. Here top ▷ One op.Step ▷ ValueAt e ▷ One (op.Unless out) ▷ StatementsAt body ▷ One (op.Plain (ef.Line line)) ▷ One (op.Jump top)) ▷ Here out
+    StatementAt (Assign line local e) =
+        One (op.Plain (ef.Line line)) ▷ ValueAt e ▷ One (op.Plain (ef.Local local)) ▷ One (op.Plain ef.Write)
+    StatementAt (If' line e row body) =
+        WithLabel λ out. (One (op.Plain (ef.Line line)) ▷ ValueAt e ▷ One (op.Unless out) ▷ StatementsAt body)
+        ▷ Here out
+    StatementAt (While' line e row body) =
+        WithLabel λ out. (One (op.Plain (ef.Line line)) ▷ WithLabel λ top. Here top ▷ One op.Step ▷ ValueAt e
+        ▷ One (op.Unless out) ▷ StatementsAt body ▷ One (op.Plain (ef.Line line)) ▷ One (op.Jump top)) ▷ Here
+        out
 
     pub StatementsAt : {m : _} → Row_of-Statement m → Span
     StatementsAt end_of-Statement = Nothing

@@ -244,8 +244,8 @@ fn there(functions: u32, number: Option<u32>) -> Option<u32>
     }
 }
 
-/// The code of a checked program, whatever its types: it has an outcome exactly where the program means it, and is stuck
-/// where the program means nothing.
+/// The code of a checked program, whatever its types: it has an outcome exactly where the program means it,
+/// and is stuck where the program means nothing.
 pub fn code_of(alloc: Global, checked: &Checked) -> Result<Code, OutOfMemory>
     ensures { IfOk result (λ code. Follows checked.now code) }
 {

@@ -101,5 +101,7 @@ arity (Binary o) = 2
 
 -- an operator on its operands; the negative is what is left of 0
 abbrev pub apply : Operator → IntKind → List Value → Store → Out Value
-apply (Unary Minus) k vs store = on_one vs (λ x. with_some (number_of x) (λ a. on_numbers op.Subtract k (pos 0) a store))
-apply (Binary o) k vs store = on_two vs (λ x y. with_some (number_of x) (λ a. with_some (number_of y) (λ b. on_numbers o k a b store)))
+apply (Unary Minus) k vs store =
+    on_one vs (λ x. with_some (number_of x) (λ a. on_numbers op.Subtract k (pos 0) a store))
+apply (Binary o) k vs store =
+    on_two vs (λ x y. with_some (number_of x) (λ a. with_some (number_of y) (λ b. on_numbers o k a b store)))

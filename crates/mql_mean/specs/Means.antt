@@ -35,7 +35,9 @@ abbrev mutual
 
   pub values_of : {m : _} → Row_of-Expression m → Act (List Value)
   values_of end_of-Expression n w = Go [] n w
-  values_of (more_of-Expression e es) n w = bind (bind (evaluates e n w) (as_value (is_void e))) (λ v n w. bind (values_of es n w) (λ vs n w. Go (v ∷ vs) n w))
+  values_of (more_of-Expression e es) n w =
+      bind (bind (evaluates e n w) (as_value (is_void e)))
+      (λ v n w. bind (values_of es n w) (λ vs n w. Go (v ∷ vs) n w))
 
 -- the value of an expression that stands in the place of a value
 abbrev pub value_of : Expression → Act Value
@@ -46,12 +48,14 @@ abbrev pub choose : {A : Type 0} → Bool → Act A → Act A → Act A
 choose true a b n w = a n w
 choose false a b n w = b n w
 
--- a loop of at most so many turns: each spends a step, makes its test, and then its body; then the loop's line is in
--- force again
+-- a loop of at most so many turns: each spends a step, makes its test, and then its body; then the loop's
+-- line is in force again
 abbrev pub turns : ℕ → ℕ → Act Value → Act (Unit {0}) → Act (Unit {0})
 turns zero line test body n w = spend (λ n w. End Exhausted n w) n w
 turns (suc t) line test body n w =
-    spend (λ n w. bind (test n w) (λ v n w. bind (lift (truth v w.store) n w) (λ b. choose b (λ n w. bind (body n w) (λ _ n w. bind (lift (set_line line w.store) n w) (λ _. turns t line test body))) (Go tt)))) n w
+    spend (λ n w. bind (test n w) (λ v n w. bind (lift (truth v w.store) n w)
+    (λ b. choose b (λ n w. bind (body n w)
+    (λ _ n w. bind (lift (set_line line w.store) n w) (λ _. turns t line test body))) (Go tt)))) n w
 
 -- what a statement does, with at most so many turns of each loop; it puts its line in force first
 module _ (fuel : ℕ) where
@@ -59,10 +63,17 @@ module _ (fuel : ℕ) where
     pub does : Statement → Act (Unit {0})
     does (Empty line) n w = lift (set_line line w.store) n w
     does (Block' line row body) n w = bind (lift (set_line line w.store) n w) (λ _ n w. does_row body n w)
-    does (Evaluate line e) n w = bind (lift (set_line line w.store) n w) (λ _ n w. bind (evaluates e n w) (λ v n w. Go tt n w))
-    does (Assign line local e) n w = bind (lift (set_line line w.store) n w) (λ _ n w. bind (value_of e n w) (λ v n w. lift (write local v w.store) n w))
-    does (If' line e row body) n w = bind (lift (set_line line w.store) n w) (λ _ n w. bind (value_of e n w) (λ v n w. bind (lift (truth v w.store) n w) (λ b. choose b (does_row body) (Go tt))))
-    does (While' line e row body) n w = bind (lift (set_line line w.store) n w) (λ _. turns fuel line (value_of e) (does_row body))
+    does (Evaluate line e) n w =
+        bind (lift (set_line line w.store) n w) (λ _ n w. bind (evaluates e n w) (λ v n w. Go tt n w))
+    does (Assign line local e) n w =
+        bind (lift (set_line line w.store) n w)
+        (λ _ n w. bind (value_of e n w) (λ v n w. lift (write local v w.store) n w))
+    does (If' line e row body) n w =
+        bind (lift (set_line line w.store) n w)
+        (λ _ n w. bind (value_of e n w)
+        (λ v n w. bind (lift (truth v w.store) n w) (λ b. choose b (does_row body) (Go tt))))
+    does (While' line e row body) n w =
+        bind (lift (set_line line w.store) n w) (λ _. turns fuel line (value_of e) (does_row body))
 
     pub does_row : {m : _} → Row_of-Statement m → Act (Unit {0})
     does_row end_of-Statement n w = Go tt n w
@@ -80,7 +91,9 @@ returns n w = Go void_value n (record w { store = leave w.store })
 -- a call of a function: its frame, then its step, then its body
 abbrev pub calls : ℕ → Option Function → Act Value
 calls fuel None n w = End Stuck n w
-calls fuel (Some f) n w = bind (lift (enter f.locals w.store) n w) (λ _. spend (λ n w. bind (does_all fuel f.body n w) (λ _. returns)))
+calls fuel (Some f) n w =
+    bind (lift (enter f.locals w.store) n w)
+    (λ _. spend (λ n w. bind (does_all fuel f.body n w) (λ _. returns)))
 
 -- a function with nothing to do, as a source's Start and Stop are where it has no globals
 abbrev pub nothing : Function
@@ -112,7 +125,7 @@ abbrev pub outcome : Res Value → Outcome
 outcome (Go v n w) = record { ended = Returned v; left = n; world = w }
 outcome (End e n w) = record { ended = e; left = n; world = w }
 
--- what the source means by an event with an argument, within n steps, from a world. A loop has at most n turns, since
--- each spends a step; no event function takes the argument yet
+-- what the source means by an event with an argument, within n steps, from a world. A loop has at most n
+-- turns, since each spends a step; no event function takes the argument yet
 abbrev pub means : Checked → Entry → ℤ → ℕ → World → Outcome
 means checked entry arg n w = outcome (calls n (event checked entry) n w)

@@ -21,7 +21,8 @@ abbrev pub is_int : IntKind → Bool
 is_int kind.Int = true
 is_int _ = false
 
--- a value that can be printed (MQL5 Reference, Common Functions, Print): of what is built so far an int or a string
+-- a value that can be printed (MQL5 Reference, Common Functions, Print): of what is built so far an int or a
+-- string
 abbrev pub prints_at : Value-F Value → Bool
 prints_at (Value-F.Num k x) = is_int k
 prints_at (Value-F.Dbl x) = false
@@ -86,8 +87,10 @@ pub record Takes (call : HostCall) : Type 0 where
 abbrev pub Gives : HostCall → Reply → Type 0
 Gives call reply = (native : Native) → call.id ≡ native_number native → IsTrue (gives native reply)
 
--- from h the call got its answer and led to h': a reply that it may give, or an error; want of memory says nothing
-abbrev pub Answers : {H : Type 0} → (H → HostCall → Answer → H → Type 0) → H → HostCall → Result Reply HostEnd → H → Type 0
+-- from h the call got its answer and led to h': a reply that it may give, or an error; want of memory says
+-- nothing
+abbrev pub Answers : {H : Type 0} → (H → HostCall → Answer → H → Type 0) → H → HostCall → Result Reply HostEnd
+    → H → Type 0
 Answers may h call (Ok reply) h' = may h call (Replied reply) h' × Gives call reply
 Answers may h call (Err (ended.Error kind)) h' = may h call (Refused kind) h'
 Answers may h call (Err ended.OutOfMemory) h' = Unit {0}

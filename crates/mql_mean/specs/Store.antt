@@ -87,4 +87,6 @@ with_local local v f = record f { locals = slice_set f.locals local v }
 
 -- a local of the call in force gets a value
 abbrev pub write : ℕ → Value → Store → Out (Unit {0})
-write local v store = with_some (top store) (λ f. with_some (slice_get f.locals local) (λ _. Ok' tt (put_top store (with_local local v f))))
+write local v store =
+    with_some (top store) (λ f. with_some (slice_get f.locals local)
+    (λ _. Ok' tt (put_top store (with_local local v f))))

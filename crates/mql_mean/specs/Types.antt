@@ -46,8 +46,8 @@ module _ (locals : List IntKind) where
   Prints (Apply' o k row args) = result_kind o k ≡ Int
   Prints (Native' native row args) = ⊥
 
-  -- a number is in its kind's range, a local is there, an operator has its operands, which are numbers, and Print has
-  -- arguments that it takes
+  -- a number is in its kind's range, a local is there, an operator has its operands, which are numbers, and
+  -- Print has arguments that it takes
   abbrev mutual
     pub Typed : Expression → Type 0
     Typed (Text s) = Unit {0}
@@ -70,7 +70,8 @@ module _ (locals : List IntKind) where
     TypedStatement (Empty line) = Unit {0}
     TypedStatement (Block' line row body) = TypedStatements body
     TypedStatement (Evaluate line e) = Typed e
-    TypedStatement (Assign line local e) = Is (slice_get locals local) × (kind_of e ≡ slice_get locals local) × Typed e
+    TypedStatement (Assign line local e) =
+        Is (slice_get locals local) × (kind_of e ≡ slice_get locals local) × Typed e
     TypedStatement (If' line e row body) = (kind_of e ≡ Some BoolKind) × Typed e × TypedStatements body
     TypedStatement (While' line e row body) = (kind_of e ≡ Some BoolKind) × Typed e × TypedStatements body
 

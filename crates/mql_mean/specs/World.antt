@@ -6,8 +6,8 @@ use Rattle.mql_mean.specs.declared.store.Store.{Store}
 use Rattle.mql_mean.specs.declared.host.HostCall.{HostCall}
 use Rattle.mql_mean.specs.Answer.{Answer}
 
--- how a run ends: with a value; with an error at a line; where no step is left; where the world had no fitting answer;
--- or where the program is none that typing admits (own)
+-- how a run ends: with a value; with an error at a line; where no step is left; where the world had no
+-- fitting answer; or where the program is none that typing admits (own)
 pub data Ended : Type 0 where
   Returned : (value : Value) → Ended
   Failed : (kind : ErrorKind) (line : ℕ) → Ended

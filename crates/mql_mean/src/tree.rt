@@ -120,8 +120,8 @@ pub enum Statement {
     Evaluate(u32, Expression),
     /// Gives the local of this number the value of an expression, as an assignment and a declaration do.
     Assign(u32, u32, Expression),
-    /// Statements that are gone through where the condition holds. (A list, and no `Box`, whose address would be a part
-    /// of the tree that contracts see.)
+    /// Statements that are gone through where the condition holds. (A list, and no `Box`, whose address would
+    /// be a part of the tree that contracts see.)
     If(u32, Expression, ItemList<Statement>),
     /// Statements that are gone through as long as the condition holds.
     While(u32, Expression, ItemList<Statement>),

@@ -87,12 +87,17 @@ with_value operands v = Val v ∷ operands
 
 -- what an effect makes of the operands and the store
 abbrev pub effect : Code → Effect → List Operand → Store → Out (List Operand)
-effect code (ef.Const number) operands store = with_some (constant_of code number) (λ v. Ok' (Val v ∷ operands) store)
+effect code (ef.Const number) operands store =
+    with_some (constant_of code number) (λ v. Ok' (Val v ∷ operands) store)
 effect code ef.Drop operands store = drop_on operands store
 effect code (ef.Local local) operands store = Ok' (At local ∷ operands) store
-effect code ef.Read operands store = with_some (top_place operands) (λ p. map_out (with_value p.rest) (read p.it store))
-effect code ef.Write operands store = with_some (top_place operands) (λ p. with_some (top_value p.rest) (λ v. map_out (λ _. v.rest) (write p.it v.it store)))
-effect code (ef.Apply o k) operands store = with_some (take_values (arity o) operands []) (λ vs. map_out (with_value vs.rest) (apply o k vs.it store))
+effect code ef.Read operands store =
+    with_some (top_place operands) (λ p. map_out (with_value p.rest) (read p.it store))
+effect code ef.Write operands store =
+    with_some (top_place operands) (λ p. with_some (top_value p.rest)
+    (λ v. map_out (λ _. v.rest) (write p.it v.it store)))
+effect code (ef.Apply o k) operands store =
+    with_some (take_values (arity o) operands []) (λ vs. map_out (with_value vs.rest) (apply o k vs.it store))
 effect code (ef.Line line) operands store = map_out (λ _. operands) (set_line line store)
 
 -- from a label on
@@ -102,7 +107,9 @@ goes (Some place) function operands n w = On function place operands n w
 
 -- the place of a label of a function
 abbrev pub label_at : Code → ℕ → ℕ → Option ℕ
-label_at code function label = then_some (slice_get code.functions function) (λ c. then_some (slice_get c.labels label) (λ l. Some l.place))
+label_at code function label =
+    then_some (slice_get code.functions function)
+    (λ c. then_some (slice_get c.labels label) (λ l. Some l.place))
 
 -- one of two states
 abbrev pub branch : Bool → Next → Next → Next
@@ -120,28 +127,38 @@ stepped zero go w = Halt Exhausted zero w
 stepped (suc n) go w = go n w
 
 -- a call of a native function with the arguments that were taken
-abbrev pub native_on : Native → Option (Taken (List Value)) → ℕ → World → (List Operand → ℕ → World → Next) → Next
+abbrev pub native_on : Native → Option (Taken (List Value)) → ℕ → World → (List Operand → ℕ → World → Next)
+    → Next
 native_on native None n w go = Halt Stuck n w
 native_on native (Some t) n w go = land (ask native t.it n w) (λ v. go (give (native_void native) v t.rest))
 
 -- one instruction
 abbrev pub act : Code → Option Instruction → ℕ → ℕ → List Operand → ℕ → World → Next
 act code None function place operands n w = Halt Stuck n w
-act code (Some (op.Plain e)) function place operands n w = land (lift (effect code e operands w.store) n w) (λ operands n w. On function (place + 1) operands n w)
-act code (Some (op.Native native count)) function place operands n w = native_on native (take_values count operands []) n w (λ operands n w. On function (place + 1) operands n w)
-act code (Some (op.Jump label)) function place operands n w = goes (label_at code function label) function operands n w
+act code (Some (op.Plain e)) function place operands n w =
+    land (lift (effect code e operands w.store) n w) (λ operands n w. On function (place + 1) operands n w)
+act code (Some (op.Native native count)) function place operands n w =
+    native_on native (take_values count operands []) n w
+    (λ operands n w. On function (place + 1) operands n w)
+act code (Some (op.Jump label)) function place operands n w =
+    goes (label_at code function label) function operands n w
 act code (Some (op.Unless label)) function place operands n w =
-    land (lift (with_some (top_value operands) (λ v. map_out (λ b. beside b v.rest) (truth v.it w.store))) n w) (λ r n w. branch r.it (On function (place + 1) r.rest n w) (goes (label_at code function label) function r.rest n w))
+    land (lift (with_some (top_value operands) (λ v. map_out (λ b. beside b v.rest) (truth v.it w.store))) n w)
+    (λ r n w. branch r.it (On function (place + 1) r.rest n w)
+    (goes (label_at code function label) function r.rest n w))
 act code (Some op.Step) function place operands n w = stepped n (On function (place + 1) operands) w
-act code (Some op.Return) function place operands n w = Halt (Returned void_value) n (record w { store = leave w.store })
+act code (Some op.Return) function place operands n w =
+    Halt (Returned void_value) n (record w { store = leave w.store })
 
 -- the instruction at a place of a function
 abbrev pub fetch : Code → ℕ → ℕ → Option Instruction
-fetch code function place = then_some (slice_get code.functions function) (λ c. slice_get c.instructions place)
+fetch code function place =
+    then_some (slice_get code.functions function) (λ c. slice_get c.instructions place)
 
 -- the next state
 abbrev pub advance : Code → Next → Next
-advance code (On function place operands n w) = act code (fetch code function place) function place operands n w
+advance code (On function place operands n w) =
+    act code (fetch code function place) function place operands n w
 advance code (Halt e n w) = Halt e n w
 
 -- so many instructions

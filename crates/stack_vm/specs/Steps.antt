@@ -89,37 +89,50 @@ Reach (Err fault.Memory) s n calls answers x = Unit {0}
 
 -- an instruction that asks the world nothing
 abbrev pub Acts : {A : Type 0} → Code → Instruction → State → ℕ → Result A Fault → State → ℕ → Type 0
-Acts code i s n r s' n' = (calls : List HostCall) (answers : List Answer) → Reach r s' n' calls answers (act code (Some i) s.function s.place s.operands n (world s.store calls answers))
+Acts code i s n r s' n' = (calls : List HostCall) (answers : List Answer)
+    → Reach r s' n' calls answers (act code (Some i) s.function s.place s.operands n
+    (world s.store calls answers))
 
 -- calls and answers in turn lead from one state of the host to another
-abbrev pub Turns : {H : Type 0} → (H → HostCall → Answer → H → Type 0) → H → List HostCall → List Answer → H → Type 0
+abbrev pub Turns : {H : Type 0} → (H → HostCall → Answer → H → Type 0) → H → List HostCall → List Answer → H
+    → Type 0
 Turns may h [] [] h' = h ≡ h'
 Turns {H} may h (c ∷ cs) (a ∷ as') h' = (mid : H) × may h c a mid × Turns may mid cs as' h'
 Turns may h [] (a ∷ as') h' = ⊥
 Turns may h (c ∷ cs) [] h' = ⊥
 
 -- for some calls that were made and answers that were got, which are steps of the host from h to h'
-pub record Over {H : Type 0} (may : H → HostCall → Answer → H → Type 0) (h h' : H) (P : List HostCall → List Answer → Type 0) : Type 0 where
+pub record Over {H : Type 0} (may : H → HostCall → Answer → H → Type 0) (h h' : H) (P : List HostCall
+    → List Answer → Type 0) : Type 0 where
   pub made : List HostCall
   pub got : List Answer
   pub turns : Turns may h made got h'
   pub holds : P made got
 
 -- one instruction leads to a state, whatever answers are left beside those that it got
-abbrev pub Stepped : {H : Type 0} → (H → HostCall → Answer → H → Type 0) → Code → State → ℕ → H → H → (List HostCall → List Answer → Next) → Type 0
-Stepped may code s n h h' to = Over may h h' (λ made got. (calls : List HostCall) (rest : List Answer) → advance code (on s n calls (got ++ rest)) ≡ to (calls ++ made) rest)
+abbrev pub Stepped : {H : Type 0} → (H → HostCall → Answer → H → Type 0) → Code → State → ℕ → H → H
+    → (List HostCall → List Answer → Next) → Type 0
+Stepped may code s n h h' to = Over may h h' (λ made got. (calls : List HostCall) (rest : List Answer)
+    → advance code (on s n calls (got ++ rest)) ≡ to (calls ++ made) rest)
 
 -- one instruction, as its code answers
-abbrev pub Steps : {H A : Type 0} → (H → HostCall → Answer → H → Type 0) → Code → State → ℕ → H → Result A Fault → State → ℕ → H → Type 0
+abbrev pub Steps : {H A : Type 0} → (H → HostCall → Answer → H → Type 0) → Code → State → ℕ → H
+    → Result A Fault → State → ℕ → H → Type 0
 Steps may code s n h (Ok a) s' n' h' = Stepped may code s n h h' (on s' n')
 Steps may code s n h (Err (fault.End e)) s' n' h' = Stepped may code s n h h' (over (as_ended e) s'.store n')
 Steps may code s n h (Err fault.Stuck) s' n' h' = Stepped may code s n h h' (over Stuck s'.store n')
 Steps may code s n h (Err fault.Memory) s' n' h' = Unit {0}
 
 -- a run from x comes to a state, whatever answers are left beside those that it got
-abbrev pub Run : {H : Type 0} → (H → HostCall → Answer → H → Type 0) → Code → (List Answer → Next) → H → H → (List HostCall → List Answer → Next) → Type 0
-Run may code x h h' to = Over may h h' (λ made got. (rest : List Answer) → Comes code (x (got ++ rest)) (to made rest))
+abbrev pub Run : {H : Type 0} → (H → HostCall → Answer → H → Type 0) → Code → (List Answer → Next) → H → H
+    → (List HostCall → List Answer → Next) → Type 0
+Run may code x h h' to = Over may h h' (λ made got. (rest : List Answer)
+    → Comes code (x (got ++ rest)) (to made rest))
 
--- the run of an entry, from a store and steps, over the host's answers, comes to this end, store and steps left
-abbrev pub Ends : {H : Type 0} → (H → HostCall → Answer → H → Type 0) → Code → Entry → ℤ → Store → ℕ → H → H → End → Store → ℕ → Type 0
-Ends may code entry arg store n h h' e store' n' = Run may code (λ answers. begins code entry arg n (world store [] answers)) h h' (over (as_ended e) store' n')
+-- the run of an entry, from a store and steps, over the host's answers, comes to this end, store and steps
+-- left
+abbrev pub Ends : {H : Type 0} → (H → HostCall → Answer → H → Type 0) → Code → Entry → ℤ → Store → ℕ → H → H
+    → End → Store → ℕ → Type 0
+Ends may code entry arg store n h h' e store' n' =
+    Run may code (λ answers. begins code entry arg n (world store [] answers)) h h'
+    (over (as_ended e) store' n')

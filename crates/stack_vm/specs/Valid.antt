@@ -116,7 +116,8 @@ after_apply (suc c) k (Other ∷ ks) = None
 
 -- the kinds after an effect
 abbrev pub after_effect : Code → List IntKind → Effect → List Kind → Option (List Kind)
-after_effect code locals (ef.Const number) ks = after_const (then_some (slice_get code.constants number) (constant_kind code)) ks
+after_effect code locals (ef.Const number) ks =
+    after_const (then_some (slice_get code.constants number) (constant_kind code)) ks
 after_effect code locals ef.Drop ks = after_drop ks
 after_effect code locals (ef.Line line) ks = Some ks
 after_effect code locals (ef.Local local) ks = after_local (slice_get locals local) ks
@@ -172,7 +173,8 @@ abbrev pub kinds_at : Code → FunctionCode → ℕ → Option (List Kind)
 kinds_at code c zero = Some []
 kinds_at code c (suc place) = after_at code c.locals (slice_get c.instructions place) (kinds_at code c place)
 
--- a jump from a place leads to a label's place, where no operands are; one to its own or a lower place leads to a step
+-- a jump from a place leads to a label's place, where no operands are; one to its own or a lower place leads
+-- to a step
 pub record Target (code : Code) (c : FunctionCode) (place label : ℕ) : Type 0 where
   pub to : ℕ
   pub there : slice_get c.labels label ≡ Some (record { place = to })
@@ -223,8 +225,10 @@ pub record ValidFunction (code : Code) (c : FunctionCode) : Type 0 where
 
 -- valid code: each entry names a function, and each function's code is valid
 pub record IsValid (code : Code) : Type 0 where
-  pub entries : (entry : Entry) (function : ℕ) → entry_of code.entries entry ≡ Some function → function < length code.functions
-  pub functions : (function : ℕ) (c : FunctionCode) → slice_get code.functions function ≡ Some c → ValidFunction code c
+  pub entries : (entry : Entry) (function : ℕ) → entry_of code.entries entry ≡ Some function
+      → function < length code.functions
+  pub functions : (function : ℕ) (c : FunctionCode) → slice_get code.functions function ≡ Some c
+      → ValidFunction code c
 
 -- an entry that calls a function
 abbrev pub is_some : {A : Type 0} → Option A → Bool

@@ -71,7 +71,8 @@ pub fn binary(
     y: &Value,
     store: &Store,
 ) -> Result<Value, Fault>
-    ensures { Meets (a.apply (Operator.Binary operator) kind (x.now ∷ y.now ∷ []) store.now) result store.now }
+    ensures { Meets (a.apply (Operator.Binary operator) kind (x.now ∷ y.now ∷ []) store.now)
+        result store.now }
 {
     let Some(x) = x.number() else {
         return Err(Fault::Stuck);

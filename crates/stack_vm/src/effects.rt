@@ -57,7 +57,8 @@ fn do_const(
     operands: &mut Stack<Operand>,
     store: &Store,
 ) -> Result<(), Fault>
-    ensures { Leaves (m.effect code.now (Effect.Const number) operands.old) operands.new store.now result store.now }
+    ensures { Leaves (m.effect code.now (Effect.Const number) operands.old) operands.new store.now result
+        store.now }
 {
     let value = constant_of(alloc, code, number)?;
     push(operands, Operand::Value(value))
@@ -74,7 +75,8 @@ fn do_drop(code: &Code, operands: &mut Stack<Operand>, store: &Store) -> Result<
 
 /// Takes the topmost operand, a value.
 pub fn pop_value(operands: &mut Stack<Operand>) -> Option<Value>
-    ensures { MatchOption result (m.top_value operands.old ≡ None) (λ v. m.top_value operands.old ≡ Some (m.beside v operands.new)) }
+    ensures { MatchOption result (m.top_value operands.old ≡ None)
+        (λ v. m.top_value operands.old ≡ Some (m.beside v operands.new)) }
 {
     match operands.pop() {
         Some(Operand::Value(v)) => Some(v),
@@ -84,7 +86,8 @@ pub fn pop_value(operands: &mut Stack<Operand>) -> Option<Value>
 
 /// Takes the topmost operand, a place.
 fn pop_place(operands: &mut Stack<Operand>) -> Option<u32>
-    ensures { MatchOption result (m.top_place operands.old ≡ None) (λ p. m.top_place operands.old ≡ Some (m.beside p operands.new)) }
+    ensures { MatchOption result (m.top_place operands.old ≡ None)
+        (λ p. m.top_place operands.old ≡ Some (m.beside p operands.new)) }
 {
     match operands.pop() {
         Some(Operand::Place(p)) => Some(p),
@@ -126,7 +129,8 @@ fn do_binary(
     operands: &mut Stack<Operand>,
     store: &Store,
 ) -> Result<(), Fault>
-    ensures { Leaves (m.effect code.now (Effect.Apply (Operator.Binary operator) kind) operands.old) operands.new store.now result store.now }
+    ensures { Leaves (m.effect code.now (Effect.Apply (Operator.Binary operator) kind) operands.old)
+        operands.new store.now result store.now }
 {
     let Some(y) = pop_value(operands) else {
         return Err(Fault::Stuck);
@@ -147,7 +151,8 @@ fn do_unary(
     operands: &mut Stack<Operand>,
     store: &Store,
 ) -> Result<(), Fault>
-    ensures { Leaves (m.effect code.now (Effect.Apply (Operator.Unary operator) kind) operands.old) operands.new store.now result store.now }
+    ensures { Leaves (m.effect code.now (Effect.Apply (Operator.Unary operator) kind) operands.old)
+        operands.new store.now result store.now }
 {
     let Some(x) = pop_value(operands) else {
         return Err(Fault::Stuck);

@@ -36,7 +36,9 @@ fn run<H: Host>(
 ) -> Result<End, OutOfMemory>
     requires valid { IsValid code.now }
     requires fits { Runs code.now (on state.old fuel.old [] []) }
-    ensures { IfOk result (λ e. Run H.host_step code.now (λ answers. on state.old fuel.old [] answers) host.old host.new (over (as_ended e) state.new.store fuel.new)) }
+    ensures { IfOk result (λ e. Run H.host_step code.now
+        (λ answers. on state.old fuel.old [] answers) host.old host.new
+        (over (as_ended e) state.new.store fuel.new)) }
 {
     'run: loop {
         match step(alloc, code, state, fuel, host) {
@@ -110,7 +112,8 @@ impl Machine {
         host: &mut H,
     ) -> Result<End, OutOfMemory>
         requires { IsTrue (has_entry program.now entry) }
-        ensures { IfOk result (λ e. Ends H.host_step program.now entry arg self.old fuel.old host.old host.new e self.new fuel.new) }
+        ensures { IfOk result (λ e. Ends H.host_step program.now entry arg self.old fuel.old host.old host.new
+            e self.new fuel.new) }
     {
         let code = program.code();
         let Some(function) = code.entries.at(entry) else {

@@ -103,7 +103,8 @@ fn ask<H: Host>(
     host: &mut H,
 ) -> Result<(), Fault>
     requires place { state.old.place + 1 < 2 ^ 64 }
-    requires here { m.fetch code.now state.old.function state.old.place ≡ Some (Instruction.Native native count) }
+    requires here { m.fetch code.now state.old.function state.old.place ≡ Some
+        (Instruction.Native native count) }
     ensures { (n : ℕ) → Steps H.host_step code.now state.old n host.old result state.new n host.new }
 {
     let args = match take_values(alloc, &mut state.operands, count) {

@@ -24,7 +24,8 @@ calls_to_fail files = files.turns.fails
 -- what a reading gives, memory found (own)
 abbrev pub wanted : MemFiles → List ℕ → ℕ → Result (List ℕ) FileFault
 wanted files name limit =
-    if is_to_fail (calls_to_fail files) (calls_made files) then Err Failed else reading (contents files name) limit
+    if is_to_fail (calls_to_fail files) (calls_made files) then Err Failed
+    else reading (contents files name) limit
 
 -- how many readings failed (own)
 abbrev pub failed_reads : MemFiles → ℕ

@@ -5,8 +5,8 @@ use Rattle.std.specs.Prelude.{◌≡◌, ℕ, ◌+◌, ◌-◌, ◌^◌, ◌≤�
 abbrev pub Contents : Type 0
 Contents = List ℕ → Option (List ℕ)
 
--- What is seen of files: what each name holds, where it is told; how many readings asked for a name that is not
--- held, failed, or found more bytes than they take; how many writings failed (own)
+-- What is seen of files: what each name holds, where it is told; how many readings asked for a name that is
+-- not held, failed, or found more bytes than they take; how many writings failed (own)
 pub record FilesSeen : Type 0 where
   pub told : Option Contents
   pub absents : ℕ
@@ -27,7 +27,8 @@ empty = λ _. None
 abbrev pub holding : Contents → List ℕ → List ℕ → Contents
 holding held name bytes = λ asked. if bytes_eq name asked then Some bytes else held asked
 
--- what a write that was cut short may leave: the contents as they were, or the name holding a prefix of the bytes (own)
+-- what a write that was cut short may leave: the contents as they were, or the name holding a prefix of the
+-- bytes (own)
 abbrev pub CutShort : Contents → List ℕ → List ℕ → Option Contents → Type 0
 CutShort held name bytes after =
     (after ≡ Some held) ⊎ ((n : ℕ) × (after ≡ Some (holding held name (take n bytes))))
@@ -40,7 +41,8 @@ WhereTold {A} told P = (value : A) → told ≡ Some value → P value
 abbrev pub Rose : ℕ → ℕ → Type 0
 Rose before now = min (before + 1) (2 ^ 64 - 1) ≤ now
 
--- a count of one fault over one call: it never falls, it rose where the call answers the fault, and it stays otherwise (own)
+-- a count of one fault over one call: it never falls, it rose where the call answers the fault, and it stays
+-- otherwise (own)
 pub record Counts (Fault : Type 0) (before now : ℕ) : Type 0 where
   pub never_falls : before ≤ now
   pub rose : Fault → Rose before now

@@ -31,7 +31,8 @@ impl CalmFiles {
 
     /// Gives a file its bytes. This is no call of the trait. A refused one changes nothing.
     pub fn set(&mut self, name: &Text8, bytes: &[u8]) -> Result<(), OutOfMemory>
-        ensures ok { OnOk result (calm_contents self.new ≡ holding (calm_contents self.old) name.now bytes.now) }
+        ensures ok { OnOk result (calm_contents self.new ≡ holding
+            (calm_contents self.old) name.now bytes.now) }
         ensures err { OnErr result (self.new ≡ self.old) }
         ensures absents { calm_absents self.new ≡ calm_absents self.old }
         ensures oversizes { calm_oversizes self.new ≡ calm_oversizes self.old }
@@ -55,8 +56,10 @@ impl Files for CalmFiles {
         ensures within { IfOk result (λ bytes. length bytes ≤ limit) }
         ensures answer { Gives result (reading (calm_contents self.old name.now) limit) }
         ensures never_fails { IsErrOf result FileFault.Failed → ⊥ }
-        ensures absents { Counts (IsErrOf result FileFault.Absent) (calm_absents self.old) (calm_absents self.new) }
-        ensures oversizes { Counts (IsErrOf result FileFault.TooLarge) (calm_oversizes self.old) (calm_oversizes self.new) }
+        ensures absents { Counts (IsErrOf result FileFault.Absent) (calm_absents self.old)
+            (calm_absents self.new) }
+        ensures oversizes { Counts (IsErrOf result FileFault.TooLarge) (calm_oversizes self.old)
+            (calm_oversizes self.new) }
         ensures absents_once { AtMostOnce (calm_absents self.old) (calm_absents self.new) }
         ensures oversizes_once { AtMostOnce (calm_oversizes self.old) (calm_oversizes self.new) }
     {
@@ -64,7 +67,8 @@ impl Files for CalmFiles {
     }
 
     fn write_all_to(&mut self, name: &Text8, bytes: &[u8]) -> Result<(), WriteError>
-        ensures written { OnOk result (calm_contents self.new ≡ holding (calm_contents self.old) name.now bytes.now) }
+        ensures written { OnOk result (calm_contents self.new ≡ holding
+            (calm_contents self.old) name.now bytes.now) }
         ensures cut_short { OnErr result (calm_contents self.new ≡ calm_contents self.old) }
         ensures never_fails { IsErrOf result WriteError.Failed → ⊥ }
         ensures absents { calm_absents self.new ≡ calm_absents self.old }
@@ -106,7 +110,8 @@ impl Sink for CalmSink {
         ensures count { IfOk result (λ k. k ≡ taken piece.now) }
         ensures within { IfOk result (λ k. k ≤ length piece.now) }
         ensures progress { IfOk result (λ k. 0 < length piece.now → 1 ≤ k) }
-        ensures appended { IfOk result (λ k. calm_written self.new ≡ calm_written self.old ++ take k piece.now) }
+        ensures appended { IfOk result (λ k. calm_written self.new ≡ calm_written self.old
+            ++ take k piece.now) }
         ensures refused { OnErr result (calm_written self.new ≡ calm_written self.old) }
         ensures never_fails { IsErrOf result WriteError.Failed → ⊥ }
     {

@@ -29,7 +29,8 @@ fn write_error(error: io::Error) -> WriteError {
     }
 }
 
-/// The bytes that a reader has left, of which there may be `limit` at most. No more than `limit + 1` are read.
+/// The bytes that a reader has left, of which there may be `limit` at most. No more than `limit + 1` are
+/// read.
 fn read_whole<R: Read>(alloc: Global, from: &mut R, limit: u64) -> Result<Text8, FileFault>
     ensures { IfOk result (λ bytes. length bytes ≤ limit) }
 {

@@ -10,8 +10,8 @@ use crate::{FileFault, Files, WriteError};
 use fx8::{Numbers, OutOfMemory, Text8};
 use std::alloc::Global;
 
-/// Files in memory. They tell what they hold. Their calls are numbered from 0, readings and writings together, and
-/// those whose numbers are on a list fail.
+/// Files in memory. They tell what they hold. Their calls are numbered from 0, readings and writings
+/// together, and those whose numbers are on a list fail.
 #[derive(Debug, Drop)]
 pub struct MemFiles {
     shelf: Shelf,
@@ -70,9 +70,12 @@ impl Files for MemFiles {
         ensures answer { Gives result (wanted self.old name.now limit) }
         ensures calls { calls_made self.new ≡ min (calls_made self.old + 1) (2 ^ 64 - 1) }
         ensures fails { calls_to_fail self.new ≡ calls_to_fail self.old }
-        ensures absents { Counts (IsErrOf result FileFault.Absent) (absent_reads self.old) (absent_reads self.new) }
-        ensures read_faults { Counts (IsErrOf result FileFault.Failed) (failed_reads self.old) (failed_reads self.new) }
-        ensures oversizes { Counts (IsErrOf result FileFault.TooLarge) (oversized_reads self.old) (oversized_reads self.new) }
+        ensures absents { Counts (IsErrOf result FileFault.Absent) (absent_reads self.old)
+            (absent_reads self.new) }
+        ensures read_faults { Counts (IsErrOf result FileFault.Failed) (failed_reads self.old)
+            (failed_reads self.new) }
+        ensures oversizes { Counts (IsErrOf result FileFault.TooLarge) (oversized_reads self.old)
+            (oversized_reads self.new) }
         ensures absents_once { AtMostOnce (absent_reads self.old) (absent_reads self.new) }
         ensures read_faults_once { AtMostOnce (failed_reads self.old) (failed_reads self.new) }
         ensures oversizes_once { AtMostOnce (oversized_reads self.old) (oversized_reads self.new) }
@@ -88,10 +91,12 @@ impl Files for MemFiles {
     fn write_all_to(&mut self, name: &Text8, bytes: &[u8]) -> Result<(), WriteError>
         ensures written { OnOk result (contents self.new ≡ holding (contents self.old) name.now bytes.now) }
         ensures cut_short { OnErr result (contents self.new ≡ contents self.old) }
-        ensures answer { IsErrOf result WriteError.Failed ↔ IsTrue (is_to_fail (calls_to_fail self.old) (calls_made self.old)) }
+        ensures answer { IsErrOf result WriteError.Failed
+            ↔ IsTrue (is_to_fail (calls_to_fail self.old) (calls_made self.old)) }
         ensures calls { calls_made self.new ≡ min (calls_made self.old + 1) (2 ^ 64 - 1) }
         ensures fails { calls_to_fail self.new ≡ calls_to_fail self.old }
-        ensures write_faults { Counts (IsErrOf result WriteError.Failed) (failed_writes self.old) (failed_writes self.new) }
+        ensures write_faults { Counts (IsErrOf result WriteError.Failed) (failed_writes self.old)
+            (failed_writes self.new) }
         ensures write_faults_once { AtMostOnce (failed_writes self.old) (failed_writes self.new) }
         ensures read_faults { failed_reads self.new ≡ failed_reads self.old }
         ensures absents { absent_reads self.new ≡ absent_reads self.old }

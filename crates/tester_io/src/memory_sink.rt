@@ -23,8 +23,8 @@ pub(crate) fn accept(bytes: &mut Text8, piece: &[u8]) -> Result<usize, OutOfMemo
     Ok(count)
 }
 
-/// A sink in memory. It tells what it has, and takes at most 64 bytes at once. Its writings are numbered from 0, and
-/// those whose numbers are on a list fail.
+/// A sink in memory. It tells what it has, and takes at most 64 bytes at once. Its writings are numbered from
+/// 0, and those whose numbers are on a list fail.
 #[derive(Debug, Drop)]
 pub struct MemSink {
     bytes: Text8,
@@ -64,10 +64,12 @@ impl Sink for MemSink {
         ensures progress { IfOk result (λ k. 0 < length piece.now → 1 ≤ k) }
         ensures appended { IfOk result (λ k. written self.new ≡ written self.old ++ take k piece.now) }
         ensures refused { OnErr result (written self.new ≡ written self.old) }
-        ensures answer { IsErrOf result WriteError.Failed ↔ IsTrue (is_to_fail (writes_to_fail self.old) (writes_made self.old)) }
+        ensures answer { IsErrOf result WriteError.Failed
+            ↔ IsTrue (is_to_fail (writes_to_fail self.old) (writes_made self.old)) }
         ensures calls { writes_made self.new ≡ min (writes_made self.old + 1) (2 ^ 64 - 1) }
         ensures fails { writes_to_fail self.new ≡ writes_to_fail self.old }
-        ensures write_faults { Counts (IsErrOf result WriteError.Failed) (sink_failures self.old) (sink_failures self.new) }
+        ensures write_faults { Counts (IsErrOf result WriteError.Failed) (sink_failures self.old)
+            (sink_failures self.new) }
         ensures write_faults_once { AtMostOnce (sink_failures self.old) (sink_failures self.new) }
     {
         if self.turns.take() {

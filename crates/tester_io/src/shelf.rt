@@ -79,7 +79,8 @@ impl Shelf {
 
     /// Makes a name hold these bytes. A refused call changes nothing.
     pub fn put(&mut self, name: &[u8], bytes: &[u8]) -> Result<(), OutOfMemory>
-        ensures ok { OnOk result (held_in self.new.files ≡ holding (held_in self.old.files) name.now bytes.now) }
+        ensures ok { OnOk result (held_in self.new.files ≡ holding
+            (held_in self.old.files) name.now bytes.now) }
         ensures err { OnErr result (self.new ≡ self.old) }
         ensures absents { self.new.absents ≡ self.old.absents }
         ensures oversizes { self.new.oversizes ≡ self.old.oversizes }
