@@ -2,6 +2,7 @@
 ghost use Rattle.std.specs.Prelude.{◌≡◌, ℕ, ◌+◌, ◌-◌, ◌*◌, ◌^◌, ◌<◌, ◌≤◌, min, length, IfOk, MatchOption, Option, Some, None, option_map};
 ghost use Rattle.mql_spelling.specs.Value.{value_from};
 ghost use Rattle.mql_spelling.specs.Real.{digits_len, digits_front, digits_rest, fraction_of, fraction_rest, is_negative, exponent_digits, places_kept, half, kept, double_of, digits_of, exponent_part, real_value};
+ghost use Rattle.mql_source.specs.Limits.{most_units};
 
 use crate::units::is_digit;
 use crate::value::number;
@@ -227,7 +228,7 @@ fn value_of(digits: &[u16], places: Option<u64>) -> Option<u64>
 /// The value of a double literal, where a double holds it.
 #[tactic(auto, unfolding(crate::specs::Real::real_value))]
 pub fn real_value(alloc: Global, piece: &[u16]) -> Result<Option<Fix8>, OutOfMemory>
-    requires { length piece.now ≤ 1048576 }
+    requires { length piece.now ≤ most_units }
     ensures { IfOk result (λ found. found ≡ real_value piece.now) }
 {
     let digits = digits_of(alloc, piece)?;

@@ -6,6 +6,7 @@ ghost use Rattle.std.specs.Prelude.{true, false};
 ghost use Rattle.mql_spelling.specs.Lexeme.{is_digit, is_hex_digit, is_word_unit, is_blank, is_in_line, is_exponent_mark, close_of, has_escapes, unclosed, inside, whole, fraction, block, only, some_only, marked, zero, point, exponent, slash, line_feed, continued, line_end, backslash, quotation, angle, sign_of, lexeme};
 ghost use Rattle.mql_spelling.specs.Onward.{after};
 ghost use Rattle.mql_spelling.specs.declared.lexeme.Lexeme.TheVariants.{Name, Double, Hexadecimal, Blank};
+ghost use Rattle.mql_source.specs.Limits.{most_units};
 
 use crate::lexeme::{Lexeme, Mode, Quote};
 use crate::sign::spelled_sign;
@@ -538,7 +539,7 @@ fn better(
 
 /// The longest piece at the beginning of a text.
 pub fn longest(mode: Mode, text: &[u16]) -> Option<(usize, Lexeme)>
-    requires { length text.now ≤ 1048576 }
+    requires { length text.now ≤ most_units }
     ensures longest { Longest (lexeme mode) text.now result }
     ensures progress { IfSome result (λ found. (0 < found.0) × (found.0 ≤ length text.now)) }
 {

@@ -4,6 +4,7 @@ use crate::{
     reserved_word, spelled_text,
 };
 use fx8::Text;
+use mql_source::MOST_UNITS;
 use std::alloc::Global;
 use std::test::Fail;
 
@@ -19,7 +20,7 @@ fn units(alloc: Global, source: &str) -> Result<Text, Fail> {
 /// The longest piece of an ASCII text.
 fn piece(alloc: Global, mode: Mode, source: &str) -> Result<Option<(usize, Lexeme)>, Fail> {
     let text = units(alloc, source)?;
-    if text.len() > 1_048_576 {
+    if text.len() > MOST_UNITS {
         return Ok(None);
     }
     Ok(longest(mode, text.as_slice()))
@@ -152,7 +153,7 @@ fn doubles(rt: HostRuntime) -> Result<(), Fail> {
     ];
     for (source, want) in table {
         let text = units(alloc, source)?;
-        if text.len() <= 1_048_576 {
+        if text.len() <= MOST_UNITS {
             let got = match real_value(alloc, text.as_slice())? {
                 Some(number) => Some(number.units()),
                 None => None,

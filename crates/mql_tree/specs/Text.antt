@@ -6,10 +6,7 @@ use Rattle.std.specs.Char.Utf16.{is_low_surrogate, is_high_surrogate}
 use Rattle.std.specs.Str.Lossy.{utf8_valid_len}
 use Rattle.mql_tree.specs.declared.text.TextFault.{TextFault}
 use Rattle.mql_tree.specs.declared.text.TextFault.TheVariants.{NotUtf8, OddLength, LoneSurrogate, TooLong, OutOfMemory}
-
--- a text has at most so many units (own)
-abbrev pub most_units : ℕ
-most_units = 1048576
+use Rattle.mql_source.specs.Limits.{most_units}
 
 -- the 16-bit units of characters (the Unicode Standard, UTF-16)
 abbrev pub units_of : List ℕ → List ℕ

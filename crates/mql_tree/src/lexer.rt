@@ -3,6 +3,7 @@ ghost use Rattle.std.specs.Prelude.{◌≡◌, ℕ, ◌+◌, ◌<◌, ◌≤◌,
 ghost use Rattle.mql_spelling.specs.Lexeme.{lexeme};
 ghost use Rattle.mql_spelling.specs.Longest.{Longest};
 ghost use Rattle.mql_tree.specs.Tokens.{behind_hash, behind_plain, behind_other, mode_behind, line_ends, span_of, fault_at, start, Answer, Lexes, IsLexed};
+ghost use Rattle.mql_source.specs.Limits.{most_units};
 
 use crate::value::{Meaning, PieceFault, piece_meaning};
 use crate::{LexFault, Span, Token, Tokens};
@@ -84,7 +85,7 @@ fn fault_at(fault: PieceFault, span: Span) -> LexFault
 /// The tokens of a text that is the file of that number, or the first fault in it. It asks for at most
 /// 1,048,576 units.
 pub fn lex(alloc: Global, file: u32, text: &Text) -> Result<Tokens, LexFault>
-    requires { length text.now ≤ 1048576 }
+    requires { length text.now ≤ most_units }
     ensures { IsLexed file text.now result }
 {
     let mut tokens = Tokens::new(alloc);

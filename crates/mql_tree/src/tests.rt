@@ -1,5 +1,6 @@
 //! Worked cases, and that a call with memory answers Ok.
 use crate::{TextFault, Token, lex, text_of_bytes};
+use mql_source::MOST_UNITS;
 use std::alloc::Global;
 use std::test::Fail;
 
@@ -34,8 +35,8 @@ fn texts_of_bytes(rt: HostRuntime) -> Result<(), Fail> {
     for (bytes, want) in bad {
         assert_eq!(rt; text_of_bytes(alloc, bytes).err(), Some(want), "{bytes:?}");
     }
-    let most = vec![in alloc; 97u8; 1_048_576]?;
-    assert_eq!(rt; text_of_bytes(alloc, most.as_slice())?.len(), 1_048_576);
+    let most = vec![in alloc; 97u8; MOST_UNITS as usize]?;
+    assert_eq!(rt; text_of_bytes(alloc, most.as_slice())?.len(), MOST_UNITS);
     let more = vec![in alloc; 97u8; 1_048_577]?;
     assert_eq!(rt;
         text_of_bytes(alloc, more.as_slice()).err(),
@@ -64,7 +65,7 @@ fn shown(alloc: Global, token: &Token) -> Result<String, Fail> {
 fn lexed(alloc: Global, source: &str) -> Result<String, Fail> {
     let text = text_of_bytes(alloc, source.as_bytes())?;
     let mut line = String::new(alloc);
-    if text.len() > 1_048_576 {
+    if text.len() > MOST_UNITS {
         return Ok(line);
     }
     match lex(alloc, 0, &text) {

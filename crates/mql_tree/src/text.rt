@@ -5,14 +5,13 @@ ghost use Rattle.std.specs.Str.Lossy.{utf8_valid_len};
 ghost use Rattle.std.specs.Char.Escape.{encode_utf16};
 ghost use Rattle.std.specs.Char.Utf16.{is_low_surrogate, is_high_surrogate};
 ghost use Rattle.mql_tree.specs.Text.{units_of, utf8_text, utf16_text, text_of, le_units, is_odd, front_len, lone_from, is_surrogate, lone_or_long, Answers};
+ghost use Rattle.mql_source.specs.Limits.{most_units};
 
 use fx8::{OutOfMemory, Text};
+use mql_source::MOST_UNITS;
 use std::alloc::Global;
 use std::str;
 use thiserror::Error;
-
-/// A text has at most so many units.
-const MOST_UNITS: u64 = 1_048_576;
 
 /// Why bytes are no text. A place is that of a byte of the file.
 #[derive(Clone, Copy, Debug, PartialEq, Eq, Error)]
@@ -89,7 +88,7 @@ fn valid_len(bytes: &[u8]) -> usize
 fn utf8_text(alloc: Global, mark: u64, bytes: &[u8]) -> Result<Text, TextFault>
     requires { mark ≤ 3 }
     ensures exact { Answers result (utf8_text mark bytes.now) }
-    ensures few { IfOk result (λ text. length text ≤ 1048576) }
+    ensures few { IfOk result (λ text. length text ≤ most_units) }
 {
     let valid = valid_len(bytes);
     let Ok(text) = str::from_utf8(&bytes[..valid]) else {
@@ -188,7 +187,7 @@ fn first_lone(units: &[u16]) -> Option<u64>
 #[tactic(auto, unfolding(crate::specs::Text::utf16_text))]
 fn utf16_text(alloc: Global, bytes: &[u8]) -> Result<Text, TextFault>
     ensures exact { Answers result (utf16_text bytes.now) }
-    ensures few { IfOk result (λ text. length text ≤ 1048576) }
+    ensures few { IfOk result (λ text. length text ≤ most_units) }
 {
     let units = le_units(alloc, bytes)?;
     match first_lone(units.as_slice()) {
@@ -204,7 +203,7 @@ fn utf16_text(alloc: Global, bytes: &[u8]) -> Result<Text, TextFault>
 /// mark EF BB BF is dropped. A text has at most 1,048,576 units; the first fault in the bytes is told.
 pub fn text_of_bytes(alloc: Global, bytes: &[u8]) -> Result<Text, TextFault>
     ensures exact { Answers result (text_of bytes.now) }
-    ensures few { IfOk result (λ text. length text ≤ 1048576) }
+    ensures few { IfOk result (λ text. length text ≤ most_units) }
 {
     if bytes.starts_with(&[255, 254]) {
         return utf16_text(alloc, rest_from(bytes, 2));

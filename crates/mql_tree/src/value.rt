@@ -4,6 +4,7 @@ ghost use Rattle.mql_spelling.specs.Value.{value_from, spelled};
 ghost use Rattle.mql_tree.specs.Pieces.{decimal, hexadecimal, named, between, string, character, real_of, color_of, date_of, quoted, meaning};
 ghost use Rattle.mql_tree.specs.declared.token.Token.TheVariants as tokens;
 ghost use Rattle.mql_tree.specs.declared.value.Meaning.TheVariants as meanings;
+ghost use Rattle.mql_source.specs.Limits.{most_units};
 
 use crate::{IncludePlace, Token};
 use fx8::{Fix8, IntKind, OutOfMemory, Text};
@@ -211,7 +212,7 @@ fn included(alloc: Global, place: IncludePlace, piece: &[u16]) -> Result<Meaning
 /// What a piece means.
 #[tactic(auto, unfolding(crate::specs::Pieces::meaning))]
 pub fn piece_meaning(alloc: Global, what: Lexeme, piece: &[u16]) -> Result<Meaning, OutOfMemory>
-    requires { length piece.now ≤ 1048576 }
+    requires { length piece.now ≤ most_units }
     ensures { IfOk result (λ means. means ≡ meaning what piece.now) }
 {
     match what {
