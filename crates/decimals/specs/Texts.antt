@@ -2,6 +2,7 @@
 use Rattle.std.specs.Prelude.{ℕ, ◌+◌, ◌-◌, ◌*◌, ◌^◌, Bool, true, false, drop, ◌&&◌, ◌==◌, nat_le, nat_lt, if◌then◌else◌, List, [], ◌∷◌, length, Option, Some, None, option_map, ℤ, pos, neg_ℤ}
 use Rattle.std.specs.Option.{option_and_then}
 use Rattle.std.specs.List.{slice_split}
+use Rattle.fx8.specs.Decimals.{is_digit, all_digits, number_after}
 
 abbrev pub given : {A B : Type 0} → Option A → (A → Option B) → Option B
 given o f = option_and_then f o
@@ -11,17 +12,6 @@ provided test x = if test then Some x else None
 
 abbrev pub parts : ℕ → List ℕ → List (List ℕ)
 parts separator text = slice_split (λ b. b == separator) text
-
-abbrev pub is_digit : ℕ → Bool
-is_digit b = nat_le 48 b && nat_le b 57
-
-abbrev pub all_digits : List ℕ → Bool
-all_digits [] = true
-all_digits (b ∷ text) = is_digit b && all_digits text
-
-abbrev pub number_after : ℕ → List ℕ → ℕ
-number_after n [] = n
-number_after n (b ∷ text) = number_after (n * 10 + (b - 48)) text
 
 -- a whole number up to a limit: one digit or more
 unfoldable pub whole : ℕ → List ℕ → Option ℕ

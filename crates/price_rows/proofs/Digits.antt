@@ -1,7 +1,8 @@
 -- How a whole number is read, one digit after another.
 use Rattle.std.proofs.Common.{◌≡◌, ℕ, ◌+◌, ◌-◌, ◌*◌, ◌<◌, ◌≤◌, true, false, ◌&&◌, List, [], ◌∷◌, length, get_or, Some, None, Option, nat_le, refl, ◌∙◌, arith, le_refl}
 use Rattle.std.proofs.lemmas.Bool.{and_right, lt-leb, lt-ltb, le-leb}
-use Rattle.price_rows.specs.Numbers.{is_digit, all_digits, number_after, provided, whole}
+use Rattle.fx8.specs.Decimals.{is_digit, all_digits, number_after}
+use Rattle.price_rows.specs.Numbers.{provided, whole}
 
 -- what is read of the digits that are left, after a number
 abbrev pub read_after : ℕ → ℕ → List ℕ → Option ℕ

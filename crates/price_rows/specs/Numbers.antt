@@ -1,8 +1,9 @@
 -- Numbers as a price file writes them.
-use Rattle.std.specs.Prelude.{ℕ, ◌+◌, ◌-◌, ◌*◌, ◌^◌, Bool, true, ◌&&◌, ◌==◌, nat_le, nat_lt, if◌then◌else◌, List, [], ◌∷◌, length, Option, Some, None, option_map}
+use Rattle.std.specs.Prelude.{ℕ, ◌+◌, ◌-◌, ◌*◌, ◌^◌, Bool, ◌&&◌, ◌==◌, nat_le, nat_lt, if◌then◌else◌, List, [], ◌∷◌, length, Option, Some, None, option_map}
 use Rattle.std.specs.Option.{option_and_then}
 use Rattle.std.specs.List.{slice_split}
 use Rattle.market_types.specs.Ordered.{greatest_price}
+use Rattle.fx8.specs.Decimals.{all_digits, number_after}
 
 -- f of the value, where there is one
 abbrev pub given : {A B : Type 0} → Option A → (A → Option B) → Option B
@@ -15,20 +16,6 @@ provided test x = if test then Some x else None
 -- the parts of a text round each separator
 abbrev pub parts : ℕ → List ℕ → List (List ℕ)
 parts separator text = slice_split (λ b. b == separator) text
-
--- a decimal digit
-abbrev pub is_digit : ℕ → Bool
-is_digit b = nat_le 48 b && nat_le b 57
-
--- each byte is a digit
-abbrev pub all_digits : List ℕ → Bool
-all_digits [] = true
-all_digits (b ∷ text) = is_digit b && all_digits text
-
--- the number that digits write, after a number
-abbrev pub number_after : ℕ → List ℕ → ℕ
-number_after n [] = n
-number_after n (b ∷ text) = number_after (n * 10 + (b - 48)) text
 
 -- a whole number up to a limit: one digit or more
 unfoldable pub whole : ℕ → List ℕ → Option ℕ

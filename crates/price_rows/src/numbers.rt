@@ -1,6 +1,7 @@
 //! Numbers as a price file writes them.
 ghost use Rattle.std.specs.Prelude.{◌≡◌, ◌<◌, ◌≤◌, ◌-◌, ◌^◌, ◌*◌, pos, IfSome};
-ghost use Rattle.price_rows.specs.Numbers.{whole, whole_of, is_digit, plain, pointed, decimal, price, last_price, tick_volume, parts};
+ghost use Rattle.fx8.specs.Decimals.{is_digit};
+ghost use Rattle.price_rows.specs.Numbers.{whole, whole_of, plain, pointed, decimal, price, last_price, tick_volume, parts};
 ghost use Rattle.price_rows.specs.Ranges.{IsPriceNumber};
 ghost use Rattle.market_types.specs.Ordered.{greatest_price};
 

@@ -1,4 +1,4 @@
-use Rattle.std.proofs.Common.{◌∙◌, ap, arith}
+use Rattle.std.proofs.Common.{◌∙◌, ap}
 use Rattle.csv.specs.Records.{fields_of}
 use Rattle.price_rows.specs.Rows.{judged_bar}
 use Rattle.price_rows.proofs.RowLaws.{step_good, step_fault, step_end, last_of, bars_push, count_push}

@@ -1,4 +1,4 @@
-use Rattle.std.proofs.Common.{◌≡◌, ◌+◌, ◌≤◌, length, None}
+use Rattle.std.proofs.Common.{◌≡◌, ◌+◌, length, None}
 use Rattle.market_types.specs.Ordered.{AreBars}
 use Rattle.price_rows.specs.Files.{rows_from}
 use Rattle.price_rows.specs.Rows.{judged_bar}
