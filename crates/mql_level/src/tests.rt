@@ -65,10 +65,11 @@ fn built(alloc: Global, words: &str) -> Result<(Tokens, Tree), Fail> {
             parts = outer;
         } else if let Some(form) = word.strip_prefix("[") {
             let number = form.parse::<u8>().ok().ok_or("a form")?;
-            if !(1..=43).contains(&number) {
+            if 1 <= number && number <= 43 {
+                open.push(Form::of_number(number))?;
+            } else {
                 return Err("a form".into());
             }
-            open.push(Form::of_number(number))?;
             lists.push(parts)?;
             parts = TreeList::new(alloc);
         } else if let Some(place) = word.strip_prefix("@") {

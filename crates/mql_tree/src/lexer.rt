@@ -8,18 +8,15 @@ ghost use Rattle.mql_source.specs.Limits.{most_units};
 use crate::value::{Meaning, PieceFault, piece_meaning};
 use crate::{LexFault, Span, Token, Tokens};
 use fx8::Text;
-use mql_spelling::{Mode, Sign, longest};
+use mql_spelling::{Mode, Sign, is_spelled, longest};
 use std::alloc::Global;
-
-/// The name behind which a file's name stands.
-const INCLUDE: [u16; 7] = [105, 110, 99, 108, 117, 100, 101];
 
 fn behind_hash(token: &Token) -> Mode
     ensures { result ≡ behind_hash token.now }
 {
     match token {
         Token::Name(name) => {
-            if name.as_slice() == INCLUDE.as_slice() {
+            if is_spelled(name.as_slice(), b"include") {
                 Mode::Include
             } else {
                 Mode::Directive
