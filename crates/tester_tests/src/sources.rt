@@ -24,7 +24,7 @@ fn checked(alloc: Global, entry: &str, held: &[(&[u8], &[u8])]) -> Result<Text8,
 }
 
 /// Files, and what `check` tells of the first.
-const CHECKED: [(&[(&[u8], &[u8])], &[u8]); 14] = [
+const CHECKED: [(&[(&[u8], &[u8])], &[u8]); 16] = [
     (
         &[
             (b"a.mq5", b"#include \"b.mqh\"\nint x;\n"),
@@ -78,6 +78,14 @@ const CHECKED: [(&[(&[u8], &[u8])], &[u8]); 14] = [
         b"error 2 4 1 a.mq5 2\n",
     ),
     (&[(b"a.mq5", b"int f(\n")], b"error 2 4 1 a.mq5 1\n"),
+    (
+        &[(b"a.mq5", b"void OnTick(){} #define X 1\n")],
+        b"error 2 4 1 a.mq5 1\n",
+    ),
+    (
+        &[(b"a.mq5", b"\n#define X a##b\n")],
+        b"error 2 3 2 a.mq5 2\n",
+    ),
 ];
 
 #[test]
