@@ -65,18 +65,21 @@ module _ (sources : List Source) (o : Open) (others : List Open) (s : State) (so
   -- the innermost is read to its end
   pub closed : (t : State) → AtEnd sources source (length others + 1) (record { inner = o; state = s }) t
       → Advances sources (reading_of s (o ∷ others)) (reading_of t others) × (still_open (reading_of t others) < still_open (reading_of s (o ∷ others)))
-  closed t h =
-      (record { comes = λ more answer r. goes_on source (held_in more) (h.comes more) r; fits = record { files = behind_among (length sources) o others fits.files; deep = (let d = fits.deep in omega (arith, d)) } },
-      (let e = ap length h.read in omega (arith, e)))
+  closed t h = (
+    record { comes = λ more answer r. goes_on source (held_in more) (h.comes more) r; fits = record { files = behind_among (length sources) o others fits.files; deep = (let d = fits.deep in omega (arith, d)) } },
+    (let e = ap length h.read in omega (arith, e)),
+  )
 
   -- it is further on, before an include whose file is needed
   pub needs : (m : Left) (name : List ℕ) → Further sources source (length others + 1) (record { inner = o; state = s }) m × LeftLeads sources source (length others + 1) (record { inner = o; state = s }) (Err (Need name))
       → Advances sources (reading_of s (o ∷ others)) (reading_of m.state (m.inner ∷ others)) × Comes sources (reading_of s (o ∷ others)) (Err (Need name))
-  needs m name h =
-      (record {
-        comes = λ more answer r. front (sources ++ more) o m.inner others s m.state answer source (held_in more) h.0.file (λ to l. h.0.comes more to l) r;
-        fits = record { files = All-cons (λ (x : Open). x.file < length sources) m.inner others (subst (λ (k : ℕ). k < length sources) (sym h.0.file) (fits.files 0 o (omega arith))) (behind_among (length sources) o others fits.files); deep = fits.deep };
-      }, stops source held h.1)
+  needs m name h = (
+    record {
+      comes = λ more answer r. front (sources ++ more) o m.inner others s m.state answer source (held_in more) h.0.file (λ to l. h.0.comes more to l) r;
+      fits = record { files = All-cons (λ (x : Open). x.file < length sources) m.inner others (subst (λ (k : ℕ). k < length sources) (sym h.0.file) (fits.files 0 o (omega arith))) (behind_among (length sources) o others fits.files); deep = fits.deep };
+    },
+    stops source held h.1,
+  )
 
   pub fault_in : (fault : PreFault) → Ends fault (LeftLeads sources source (length others + 1) (record { inner = o; state = s }) (Err fault)) → Ends fault (Comes sources (reading_of s (o ∷ others)) (Err fault))
   fault_in fault h = ends fault (λ l. stops source held l) h
@@ -85,21 +88,23 @@ module _ (sources : List Source) (o : Open) (others : List Open) (s : State) (so
     -- the file of an include is opened
     pub opened_in : (next : Reading) → Opens sources k m.state (m.inner ∷ others) next → Advances sources (reading_of s (o ∷ others)) next × (still_open next < still_open (reading_of s (o ∷ others)))
     opened_in next q =
-        subst (λ (x : Reading). Advances sources (reading_of s (o ∷ others)) x × (still_open x < still_open (reading_of s (o ∷ others)))) (sym q.is)
-        (record {
-          comes = λ more answer r. entering (sources ++ more) o m.inner others s m.state k source q.source q.tokens answer (held_in more) h.file (held_more sources more k q.source q.held) q.lexes (λ u to a b. h.comes more u to a b) (λ fault a. h.fails more fault a) r;
-          fits = record {
-            files = All-cons (λ (x : Open). x.file < length sources) (record { file = k; rest = q.tokens; conditions = [] }) (m.inner ∷ others) h.within (All-cons (λ (x : Open). x.file < length sources) m.inner others (subst (λ (k : ℕ). k < length sources) (sym h.file) (fits.files 0 o (omega arith))) (behind_among (length sources) o others fits.files));
-            deep = (let d = h.deep in omega (arith, d));
-          };
-        }, (let e = ap length h.read in let f = h.few in omega (arith, e, f, length-append m.state.read (k ∷ []))))
+        subst (λ (x : Reading). Advances sources (reading_of s (o ∷ others)) x × (still_open x < still_open (reading_of s (o ∷ others)))) (sym q.is) (
+          record {
+            comes = λ more answer r. entering (sources ++ more) o m.inner others s m.state k source q.source q.tokens answer (held_in more) h.file (held_more sources more k q.source q.held) q.lexes (λ u to a b. h.comes more u to a b) (λ fault a. h.fails more fault a) r;
+            fits = record {
+              files = All-cons (λ (x : Open). x.file < length sources) (record { file = k; rest = q.tokens; conditions = [] }) (m.inner ∷ others) h.within (All-cons (λ (x : Open). x.file < length sources) m.inner others (subst (λ (k : ℕ). k < length sources) (sym h.file) (fits.files 0 o (omega arith))) (behind_among (length sources) o others fits.files));
+              deep = (let d = h.deep in omega (arith, d));
+            };
+          },
+          (let e = ap length h.read in let f = h.few in omega (arith, e, f, length-append m.state.read (k ∷ []))),
+        )
 
     -- it has no tokens
     pub not_opened : (fault : PreFault) → Ends fault ((depth : ℕ) → Reads sources k depth m.state (Err fault)) → Ends fault (Comes sources (reading_of s (o ∷ others)) (Err fault))
     not_opened fault q =
         ends fault
         (λ r. stops source held
-            (with_none sources (λ x. LeftLeads x source (length others + 1) (record { inner = o; state = s }) (Err fault)) (h.fails [] fault (none_with sources (λ x. Reads x k (length others + 1 + 1) m.state (Err fault)) (r (length others + 1 + 1))))))
+        (with_none sources (λ x. LeftLeads x source (length others + 1) (record { inner = o; state = s }) (Err fault)) (h.fails [] fault (none_with sources (λ x. Reads x k (length others + 1 + 1) m.state (Err fault)) (r (length others + 1 + 1))))))
         q
 
 -- all files are read

@@ -146,7 +146,15 @@ fn read_on(
             continue;
         }
         let line = take_line(alloc, &mut rest)?;
-        match deed(alloc, sources, source, depth, first.1, line.tokens.as_slice(), progress)? {
+        match deed(
+            alloc,
+            sources,
+            source,
+            depth,
+            first.1,
+            line.tokens.as_slice(),
+            progress,
+        )? {
             Deed::Goes(next) => progress = next,
             Deed::Includes(next, place) => {
                 return Ok(Pause::Includes(left_open(file, rest, next), place));

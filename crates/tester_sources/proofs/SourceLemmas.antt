@@ -11,6 +11,9 @@ use Rattle.mql_preproc.specs.Answers.{Unless}
 use Rattle.mql_preproc.specs.declared.fault.PreFault.TheVariants.{Need, BadDirective, UnclosedIf, MacroArity, Depth, TooManyTokens, TooManyFiles, Lex, OutOfMemory}
 use Rattle.mql_preproc.specs.Reading.{Preprocesses}
 use Rattle.mql_preproc.specs.Turns.{NeededInTurn, one_more}
+use Rattle.mql_preproc.specs.declared.state.Reading.{Reading}
+use Rattle.mql_preproc.specs.Resume.{Stands}
+use Rattle.mql_preproc.specs.Onward.{Ends as EndsReading, Fits}
 use Rattle.tester_answer.specs.declared.status.Status.{Status}
 use Rattle.tester_answer.specs.declared.status.Status.TheVariants as status
 use Rattle.tester_answer.specs.Answer.{Plan, Reads, Finds, Ends, refuses}
@@ -18,8 +21,8 @@ use Rattle.tester_answer.specs.Clauses.{OnlyRead, IsReading, ReadingRefused, Ref
 use Rattle.tester_answer.proofs.PlanLemmas.{Leads, leads_same, leads_on, leads_reading, leads_finding, leads_never, leads_both_read, leads_both_find, refused_here, refused_on}
 use Rattle.tester_answer.specs.Answer.{OneEnd}
 use Rattle.tester_answer.proofs.OneEnd.{refuses_one, reads_one, finds_one}
-use Rattle.tester_sources.specs.Faults.{text_fault, source_fault, TellsFault, TellsText, TellsRefusal}
-use Rattle.tester_sources.specs.Reading.{source_limit, most_files, Tokens, source, never, with_text, with_tokens, sources_plan, program_plan, ReadInTurn, none, needed, NeedMet, Refusing, FilesRefused, TextRefused, file_plan, OneAnswer}
+use Rattle.tester_sources.specs.Faults.{text_fault, source_fault, TellsFault, TellsText, TellsPreFault, TellsRefusal}
+use Rattle.tester_sources.specs.Reading.{source_limit, most_files, Tokens, source, never, with_text, with_tokens, sources_plan, program_plan, ReadInTurn, none, needed, NeedMet, MayGoOn, Refusing, FilesRefused, TextRefused, file_plan, OneAnswer}
 
 -- with a text that is there
 pub text_leads : (name : List ℕ) (r : Result (List ℕ) TextFault) (text : List ℕ) (next : List ℕ → Plan) (told : Option Contents) → r ≡ Ok text → Leads (with_text name r next) (next text) told
@@ -229,6 +232,27 @@ refusal_told entry sources (TooManyTokens span) s is h = refuses_by entry source
 refusal_told entry sources (TooManyFiles span) s is h = refuses_by entry sources (TooManyFiles span) s tt is h
 refusal_told entry sources (Lex fault) s is h = refuses_by entry sources (Lex fault) s tt is h
 refusal_told entry sources OutOfMemory s is h = subst (FilesRefused entry sources) (sym h) (tt {0})
+
+-- the status of a fault that ends the reading, which is no need
+pub fault_told : (entry : List ℕ) (sources : List Source) (fault : PreFault) (s : Status) → EndsReading fault (Preprocesses entry sources (Err fault)) → TellsPreFault sources fault s → FilesRefused entry sources s
+fault_told entry sources (Need name) s is h = absurd is
+fault_told entry sources (BadDirective span) s is h = refuses_by entry sources (BadDirective span) s tt is h
+fault_told entry sources (UnclosedIf span) s is h = refuses_by entry sources (UnclosedIf span) s tt is h
+fault_told entry sources (MacroArity span) s is h = refuses_by entry sources (MacroArity span) s tt is h
+fault_told entry sources (Depth span) s is h = refuses_by entry sources (Depth span) s tt is h
+fault_told entry sources (TooManyTokens span) s is h = refuses_by entry sources (TooManyTokens span) s tt is h
+fault_told entry sources (TooManyFiles span) s is h = refuses_by entry sources (TooManyFiles span) s tt is h
+fault_told entry sources (Lex fault) s is h = refuses_by entry sources (Lex fault) s tt is h
+fault_told entry sources OutOfMemory s is h = subst (FilesRefused entry sources) (sym h) (tt {0})
+
+-- a reading goes on with the file that was added
+pub may_go_on : (entry : List ℕ) (old new : List Source) (added : Source) (reading : Option Reading)
+    → ((entry : List ℕ) (sources more : List Source) (r : Reading) → Stands entry sources r → Stands entry (sources ++ more) r)
+    → ((sources more : List Source) (r : Reading) → Fits sources r → Fits (sources ++ more) r)
+    → new ≡ old ++ added ∷ [] → MayGoOn entry old reading → MayGoOn entry new reading
+may_go_on entry old new added None stands fits e h = tt
+may_go_on entry old new added (Some r) stands fits e h =
+    subst (λ x. Stands entry x r × Fits x r) (sym e) (stands entry old (added ∷ []) r h.0, fits old (added ∷ []) r h.1)
 
 -- the file that is needed
 pub need_told : (entry : List ℕ) (sources : List Source) (fault : PreFault) (name : List ℕ) → Unless fault (Preprocesses entry sources (Err fault)) → fault ≡ Need name → Preprocesses entry sources (Err (Need name))

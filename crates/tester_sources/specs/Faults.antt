@@ -68,7 +68,12 @@ abbrev pub TellsText : List ℕ → TextFault → Status → Type 0
 TellsText name text.OutOfMemory s = s ≡ status.OutOfMemory
 TellsText name fault s = TellsFault (text_fault name fault) s
 
--- the status of a fault of preprocessing, which asks for no file
+-- the status of a fault of preprocessing
+abbrev pub TellsPreFault : List Source → PreFault → Status → Type 0
+TellsPreFault sources OutOfMemory s = s ≡ status.OutOfMemory
+TellsPreFault sources fault s = TellsFault (source_fault sources fault) s
+
+-- the same, where it asks for no file
 abbrev pub TellsRefusal : List Source → PreFault → Status → Type 0
 TellsRefusal sources (Need name) s = ⊥
 TellsRefusal sources OutOfMemory s = s ≡ status.OutOfMemory

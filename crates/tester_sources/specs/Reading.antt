@@ -1,5 +1,5 @@
 -- The sources of a program are read in the order of need. Own.
-use Rattle.std.specs.Prelude.{◌≡◌, ◌+◌, ◌≤◌, ℕ, zero, suc, List, [], ◌∷◌, ◌++◌, length, Option, Some, Result, Ok, Err}
+use Rattle.std.specs.Prelude.{◌≡◌, ◌+◌, ◌≤◌, ℕ, zero, suc, List, [], ◌∷◌, ◌++◌, length, Option, Some, None, Result, Ok, Err}
 use Rattle.tester_io.specs.Outside.{Contents}
 use Rattle.mql_tree.specs.declared.text.TextFault.{TextFault}
 use Rattle.mql_tree.specs.declared.token.Span.{Span}
@@ -14,6 +14,13 @@ use Rattle.tester_answer.specs.declared.status.Status.TheVariants as status
 use Rattle.tester_answer.specs.Clauses.{IsReading}
 use Rattle.tester_sources.specs.declared.reading.Wanted.{Wanted}
 use Rattle.tester_sources.specs.declared.reading.Wanted.TheVariants as wanted
+use Rattle.tester_sources.specs.declared.reading.Next.{Next}
+use Rattle.tester_sources.specs.declared.reading.Next.TheVariants as nexts
+use Rattle.tester_sources.specs.declared.reading.Turned.{Turned}
+use Rattle.tester_sources.specs.declared.reading.Turned.TheVariants as turns
+use Rattle.mql_preproc.specs.declared.state.Reading.{Reading}
+use Rattle.mql_preproc.specs.Resume.{Stands}
+use Rattle.mql_preproc.specs.Onward.{Fits}
 use Rattle.tester_answer.specs.Answer.{Plan, Reads, Finds, Ends, refuses}
 use Rattle.tester_sources.specs.Faults.{text_fault, source_fault}
 
@@ -87,6 +94,22 @@ pub record NeedMet (entry : List ℕ) (told : Option Contents) (old new : List S
 abbrev pub IsWanted : List ℕ → List Source → Wanted → Type 0
 IsWanted entry sources (wanted.Tokens tokens) = Preprocesses entry sources (Ok tokens)
 IsWanted entry sources (wanted.File name) = Preprocesses entry sources (Err (Need name))
+
+-- a reading that was begun goes on with these files as it is, and comes to what the program becomes
+abbrev pub MayGoOn : List ℕ → List Source → Option Reading → Type 0
+MayGoOn entry sources None = Unit {0}
+MayGoOn entry sources (Some reading) = Stands entry sources reading × Fits sources reading
+
+-- what the reading of files comes to: the program's tokens, or the name of a file that it needs and goes on with
+abbrev pub IsNext : List ℕ → List Source → Next → Type 0
+IsNext entry sources (nexts.Tokens tokens) = Preprocesses entry sources (Ok tokens) × (length tokens ≤ 400000)
+IsNext entry sources (nexts.File name reading) = Preprocesses entry sources (Err (Need name)) × MayGoOn entry sources reading
+
+-- a turn: the files are all, or the one that is needed was read, and the reading goes on with it
+abbrev pub IsTurn : List ℕ → Option Contents → List Source → List Source → Turned → Type 0
+IsTurn entry told old new (turns.Made tokens) =
+    (new ≡ old) × Preprocesses entry old (Ok tokens) × (length tokens ≤ 400000)
+IsTurn entry told old new (turns.More reading) = NeedMet entry told old new × MayGoOn entry new reading
 
 -- tokens are no more than the parser takes
 abbrev pub FewTokens : Wanted → Type 0

@@ -1,7 +1,7 @@
 //! The statuses that tell the fault of a source.
 ghost use Rattle.std.specs.Prelude.{◌≡◌, IfOk, IfErr};
 ghost use Rattle.mql_preproc.specs.declared.fault.PreFault.TheVariants as faults;
-ghost use Rattle.tester_sources.specs.Faults.{text_rule, text_fault, file_name, at_span, token_fault, source_fault, TellsFault, TellsText, TellsRefusal};
+ghost use Rattle.tester_sources.specs.Faults.{text_rule, text_fault, file_name, at_span, token_fault, source_fault, TellsFault, TellsText, TellsPreFault, TellsRefusal};
 
 use fx8::{OutOfMemory, Text8};
 use mql_preproc::{PreFault, Sources};
@@ -79,6 +79,28 @@ fn token_status(alloc: Global, sources: &Sources, fault: LexFault) -> Status
     }
 }
 
+/// The status of a fault of preprocessing; the need of a file, too, has one.
+pub fn fault_status(alloc: Global, sources: &Sources, fault: PreFault) -> Status
+    ensures { TellsPreFault sources.now fault result }
+{
+    match fault {
+        PreFault::Need(file) => Status::Source(SourceFault {
+            stage: 3,
+            rule: 1,
+            file,
+            line: 0,
+        }),
+        PreFault::BadDirective(span) => span_status(alloc, sources, 3, 2, span),
+        PreFault::UnclosedIf(span) => span_status(alloc, sources, 3, 3, span),
+        PreFault::MacroArity(span) => span_status(alloc, sources, 3, 4, span),
+        PreFault::Depth(span) => span_status(alloc, sources, 3, 5, span),
+        PreFault::TooManyTokens(span) => span_status(alloc, sources, 3, 6, span),
+        PreFault::TooManyFiles(span) => span_status(alloc, sources, 3, 7, span),
+        PreFault::Lex(fault) => token_status(alloc, sources, fault),
+        PreFault::OutOfMemory => Status::OutOfMemory,
+    }
+}
+
 /// The name of the file that a fault of preprocessing asks for, or the status of any other fault.
 pub fn refusal(alloc: Global, sources: &Sources, fault: PreFault) -> Result<Text8, Status>
     ensures needs { IfOk result (λ name. fault ≡ faults.Need name) }
@@ -86,13 +108,6 @@ pub fn refusal(alloc: Global, sources: &Sources, fault: PreFault) -> Result<Text
 {
     match fault {
         PreFault::Need(name) => Ok(name),
-        PreFault::BadDirective(span) => Err(span_status(alloc, sources, 3, 2, span)),
-        PreFault::UnclosedIf(span) => Err(span_status(alloc, sources, 3, 3, span)),
-        PreFault::MacroArity(span) => Err(span_status(alloc, sources, 3, 4, span)),
-        PreFault::Depth(span) => Err(span_status(alloc, sources, 3, 5, span)),
-        PreFault::TooManyTokens(span) => Err(span_status(alloc, sources, 3, 6, span)),
-        PreFault::TooManyFiles(span) => Err(span_status(alloc, sources, 3, 7, span)),
-        PreFault::Lex(fault) => Err(token_status(alloc, sources, fault)),
-        PreFault::OutOfMemory => Err(Status::OutOfMemory),
+        other => Err(fault_status(alloc, sources, other)),
     }
 }

@@ -1,15 +1,19 @@
 //! The files of a program, in the order of need, and its tokens.
-ghost use Rattle.std.specs.Prelude.{◌≡◌, ◌≤◌, ◌-◌, ◌^◌, ℕ, Ok, length, All, IfOk, IfErr, IfSome, MatchOption};
+ghost use Rattle.std.specs.Prelude.{◌≡◌, ◌≤◌, ◌-◌, ◌^◌, ℕ, Ok, length, All, IfOk, IfErr};
 ghost use Rattle.mql_tree.specs.Text.{text_of};
 ghost use Rattle.mql_preproc.specs.Reading.{Preprocesses};
 ghost use Rattle.mql_preproc.specs.Turns.{NeededInTurn};
+ghost use Rattle.mql_preproc.specs.Resume.{Stands};
+ghost use Rattle.mql_preproc.specs.Onward.{Fits};
 ghost use Rattle.tester_io.specs.Outside.{WhereTold};
 ghost use Rattle.tester_answer.specs.Clauses.{OnlyRead, Refused, Never};
-ghost use Rattle.tester_sources.specs.Reading.{IsSource, IsWanted, FewTokens, FilesRefused, TextRefused, NeedMet, ReadInTurn, file_plan, sources_plan, program_plan, never};
+ghost use Rattle.tester_sources.specs.Reading.{IsSource, IsWanted, FewTokens, FilesRefused, TextRefused, MayGoOn, IsNext, IsTurn, ReadInTurn, file_plan, sources_plan, program_plan, never};
 
-use crate::fault::{refusal, text_status};
+use crate::fault::{fault_status, refusal, text_status};
 use fx8::{Text, Text8};
-use mql_preproc::{Source, Sources, needed_in_turn, preprocess};
+use mql_preproc::{
+    Reading, Source, Sources, Stop, begin, goes_on, needed_in_turn, preprocess, run,
+};
 use mql_tree::{Tokens, text_of_bytes};
 use std::alloc::Global;
 use tester_answer::Status;
@@ -45,6 +49,83 @@ pub fn make_wanted(alloc: Global, entry: &Text8, sources: &Sources) -> Result<Wa
     }
 }
 
+/// What the reading of the files so far comes to.
+#[derive(Drop)]
+enum Next {
+    /// The program's tokens.
+    Tokens(Tokens),
+    /// The name of a file that is needed, and the reading that goes on with it, where it was begun.
+    File(Text8, Option<Reading>),
+}
+
+/// What becomes of a program's files in one turn.
+#[derive(Drop)]
+enum Turned {
+    /// The program's tokens.
+    Made(Tokens),
+    /// One more file was read; the reading goes on with it, where it was begun.
+    More(Option<Reading>),
+}
+
+// Begins to read a program, or tells that its entry is needed, or the status that refuses it.
+fn begin_next(alloc: Global, entry: &Text8, sources: &Sources) -> Result<Next, Status>
+    requires few { length sources.now ≤ 2 ^ 32 }
+    requires texts { All (λ s. length s.text ≤ 1048576) sources.now }
+    ensures found { IfOk result (IsNext entry.now sources.now) }
+    ensures refused { IfErr result (FilesRefused entry.now sources.now) }
+{
+    match begin(alloc, entry, sources) {
+        Ok(reading) => run_next(alloc, entry, sources, reading),
+        Err(fault) => match refusal(alloc, sources, fault) {
+            Ok(name) => Ok(Next::File(name, None)),
+            Err(status) => Err(status),
+        },
+    }
+}
+
+// Goes on with a reading, or tells the status that refuses the files.
+fn run_next(
+    alloc: Global,
+    entry: &Text8,
+    sources: &Sources,
+    reading: Reading,
+) -> Result<Next, Status>
+    requires few { length sources.now ≤ 2 ^ 32 }
+    requires texts { All (λ s. length s.text ≤ 1048576) sources.now }
+    requires stands { Stands entry.now sources.now reading }
+    requires fits { Fits sources.now reading }
+    ensures found { IfOk result (IsNext entry.now sources.now) }
+    ensures refused { IfErr result (FilesRefused entry.now sources.now) }
+{
+    let stop = match run(alloc, sources, reading) {
+        Ok(stop) => stop,
+        Err(fault) => return Err(fault_status(alloc, sources, fault)),
+    };
+    match stop {
+        Stop::Made(tokens) => Ok(Next::Tokens(tokens)),
+        Stop::Needs(name, reading) => Ok(Next::File(name, Some(reading))),
+    }
+}
+
+// Goes on with a reading that was begun, or begins it.
+fn read_next(
+    alloc: Global,
+    entry: &Text8,
+    sources: &Sources,
+    reading: Option<Reading>,
+) -> Result<Next, Status>
+    requires few { length sources.now ≤ 2 ^ 32 }
+    requires texts { All (λ s. length s.text ≤ 1048576) sources.now }
+    requires reading { MayGoOn entry.now sources.now reading }
+    ensures found { IfOk result (IsNext entry.now sources.now) }
+    ensures refused { IfErr result (FilesRefused entry.now sources.now) }
+{
+    match reading {
+        Some(reading) => run_next(alloc, entry, sources, reading),
+        None => begin_next(alloc, entry, sources),
+    }
+}
+
 // The text of a file's bytes, or the status that refuses it.
 fn judge_text(alloc: Global, name: &Text8, bytes: &[u8]) -> Result<Text, Status>
     ensures text { IfOk result (λ text. text_of bytes.now ≡ Ok text) }
@@ -74,24 +155,27 @@ fn turn<F: Files>(
     entry: &Text8,
     sources: &mut Sources,
     files: &mut F,
-) -> Result<Option<Tokens>, Status>
+    reading: Option<Reading>,
+) -> Result<Turned, Status>
     requires turns { NeededInTurn entry.now sources.old }
     requires texts { All (λ s. length s.text ≤ 1048576) sources.old }
+    requires reading { MayGoOn entry.now sources.old reading }
     ensures only_read { OnlyRead (F.seen files.old) (F.seen files.new) }
-    ensures read { IfOk result (λ found. MatchOption found (NeedMet entry.now (F.seen files.old).told sources.old sources.new)
-        (λ tokens. (sources.new ≡ sources.old) × Preprocesses entry.now sources.old (Ok tokens))) }
-    ensures few { IfOk result (λ found. IfSome found (λ tokens. length tokens ≤ 400000)) }
+    ensures read { IfOk result (IsTurn entry.now (F.seen files.old).told sources.old sources.new) }
     ensures still_short { IfOk result (λ found. All (λ s. length s.text ≤ 1048576) sources.new) }
     ensures refused { IfErr result (Refused Never (sources_plan (513 - length sources.old) entry.now sources.old (λ sources tokens. never)) (F.seen files.old) (F.seen files.new)) }
 {
     needed_in_turn();
-    let name = match make_wanted(alloc, entry, sources)? {
-        Wanted::Tokens(tokens) => return Ok(Some(tokens)),
-        Wanted::File(name) => name,
-    };
-    let source = read_source(alloc, files, name)?;
-    sources.push(source)?;
-    Ok(None)
+    goes_on();
+    let next = read_next(alloc, entry, sources, reading)?;
+    match next {
+        Next::Tokens(tokens) => Ok(Turned::Made(tokens)),
+        Next::File(name, reading) => {
+            let source = read_source(alloc, files, name)?;
+            sources.push(source)?;
+            Ok(Turned::More(reading))
+        }
+    }
 }
 
 /// Reads the files of a program in the order of need, each judged as it is read, and preprocesses them.
@@ -111,9 +195,12 @@ pub fn read_sources<F: Files>(
 {
     needed_in_turn();
     let mut sources = Sources::new(alloc);
+    let mut reading = None;
     loop {
-        if let Some(tokens) = turn(alloc, entry, &mut sources, files)? {
-            return Ok((sources, tokens));
+        let turned = turn(alloc, entry, &mut sources, files, reading)?;
+        match turned {
+            Turned::Made(tokens) => return Ok((sources, tokens)),
+            Turned::More(next) => reading = next,
         }
     }
 }
