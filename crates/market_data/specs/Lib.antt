@@ -1,4 +1,3 @@
-pub mod BarsFile
+pub mod Markets
 pub mod Quotes
 pub mod Stages
-pub mod Views

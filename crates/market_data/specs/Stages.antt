@@ -1,10 +1,10 @@
 -- The stages of a bar, at each of which it gives one quote.
-use Rattle.std.specs.Prelude.{ℕ, Bool, true, false, List, drop, if◌then◌else◌, ℤ}
+use Rattle.std.specs.Prelude.{ℕ, List, drop, if◌then◌else◌, Option, ℤ}
 use Rattle.market_types.specs.declared.bar.Bar.{Bar}
 use Rattle.market_types.specs.declared.quote.Quote.{Quote}
-use Rattle.market_data.specs.declared.quotes.Stage.{Stage}
-use Rattle.market_data.specs.declared.quotes.Stage.TheVariants as stage
-use Rattle.market_data.specs.Quotes.{rises, opening_quotes}
+use Rattle.market_data.specs.declared.bar_quotes.Stage.{Stage}
+use Rattle.market_data.specs.declared.bar_quotes.Stage.TheVariants as stage
+use Rattle.market_data.specs.Quotes.{rises, bar_quotes}
 
 -- how many quotes of the bar are given before the stage
 abbrev pub given_before : Stage → ℕ
@@ -14,8 +14,8 @@ given_before stage.Late = 2
 given_before stage.Closing = 3
 
 -- the quotes that are left, where the first bar is at a stage
-abbrev pub quotes_left : ℕ → List Bar → Stage → List Quote
-quotes_left digits bars at = drop (given_before at) (opening_quotes digits bars)
+abbrev pub quotes_left : Option ℕ → ℕ → List Bar → Stage → List Quote
+quotes_left spread digits bars at = drop (given_before at) (bar_quotes spread digits bars)
 
 -- the price of the bar at a stage
 abbrev pub price_at : Bar → Stage → ℤ
@@ -30,9 +30,3 @@ seconds_at stage.Opening = 0
 seconds_at stage.Early = 20
 seconds_at stage.Late = 40
 seconds_at stage.Closing = 59
-
-abbrev pub is_loud : Stage → Bool
-is_loud stage.Opening = true
-is_loud stage.Early = false
-is_loud stage.Late = false
-is_loud stage.Closing = false

@@ -1,18 +1,16 @@
-//! Price files and the quotes that they give.
+//! The market of a test and the quotes that it gives.
 #![tactic(auto)]
 
-mod bars_file;
-mod moment;
-mod numbers;
-mod parts;
+mod bar_quotes;
+mod market;
 mod quotes;
-mod row_fault;
-mod rows;
 
-pub use bars_file::read_bars;
-pub use market_types::{Bar, BarList, Quote, QuoteList};
+pub use market::Market;
+pub use market_types::{
+    Bar, BarList, Mode, Period, Quote, QuoteList, Rows, Specs, SymbolSpec, Tick, TickList,
+};
+pub use price_rows::{RowFault, read_bars, read_ticks};
 pub use quotes::Quotes;
-pub use row_fault::RowFault;
 
 #[cfg(test)]
 mod tests;

@@ -1,201 +1,129 @@
-//! The quotes that bars give at opening prices.
-ghost use Rattle.std.specs.Prelude.{◌≡◌, true, ◌≤◌, ◌*◌, pos, ◌+ℤ◌, ◌*ℤ◌, ◌≤ℤ◌, [], ◌∷◌, MatchOption, IfSome, All, ◌^◌};
-ghost use Rattle.market_data.specs.Quotes.{point, quote, rises, opening_quotes, IsQuote, AreTimed};
-ghost use Rattle.market_data.specs.Stages.{price_at, seconds_at, is_loud};
-ghost use Rattle.market_data.specs.BarsFile.{IsBar, IsPrice, is_rising};
+//! The quotes of a market.
+ghost use Rattle.std.specs.Prelude.{◌≡◌, ◌≤◌, [], ◌∷◌, None, length, map, MatchOption, IfSome, All};
+ghost use Rattle.market_types.specs.Ordered.{IsBar, IsTick};
+ghost use Rattle.market_types.specs.Ranges.{IsSpec};
+ghost use Rattle.market_data.specs.Quotes.{bar_quotes, heard, tick_quote, heard_by, quotes_of_rows, IsQuote, AreTimed};
+ghost use Rattle.market_data.specs.Markets.{quotes, AreRows};
 
-use crate::{Bar, BarList, Quote};
-use fx8::Fix8;
+use crate::Market;
+use crate::bar_quotes::BarQuotes;
+use market_types::{Bar, Mode, Period, Quote, Rows, SymbolSpec, Tick};
 use std::marker::Model;
 
-/// The four moments at which a bar gives a quote.
-#[derive(Clone, Copy)]
-pub(crate) enum Stage {
-    Opening,
-    Early,
-    Late,
-    Closing,
-}
-
-impl Stage {
-    /// How many seconds after the bar's opening the stage is.
-    fn seconds(self) -> i64
-        ensures { result ≡ pos (seconds_at self) }
-    {
-        match self {
-            Stage::Opening => 0,
-            Stage::Early => 20,
-            Stage::Late => 40,
-            Stage::Closing => 59,
-        }
-    }
-
-    /// Whether the expert sees the quote.
-    fn is_loud(self) -> bool
-        ensures { result ≡ is_loud self }
-    {
-        match self {
-            Stage::Opening => true,
-            Stage::Early | Stage::Late | Stage::Closing => false,
-        }
-    }
-}
-
-/// A point in units of 10^-8.
-fn point(digits: u8) -> i64
-    requires { digits ≤ 8 }
-    ensures value { result ≡ pos (point digits) }
-    ensures most { point digits ≤ 10 ^ 8 }
-{
-    match digits {
-        0 => 100_000_000,
-        1 => 10_000_000,
-        2 => 1_000_000,
-        3 => 100_000,
-        4 => 10_000,
-        5 => 1_000,
-        6 => 100,
-        7 => 10,
-        _ => 1,
-    }
-}
-
-/// Whether the bar closes at its opening price or above.
-fn rises(bar: &Bar) -> bool
-    ensures { result ≡ rises bar.now }
-{
-    bar.o <= bar.c
-}
-
-/// The price of the bar at a stage.
-fn price_at(bar: &Bar, stage: Stage) -> Fix8
-    requires { IsBar bar.now }
-    ensures value { result ≡ price_at bar.now stage }
-    ensures range { IsPrice result }
-{
-    match stage {
-        Stage::Opening => bar.o,
-        Stage::Early => if rises(bar) { bar.l } else { bar.h },
-        Stage::Late => if rises(bar) { bar.h } else { bar.l },
-        Stage::Closing => bar.c,
-    }
-}
-
-/// Ask, the bar's spread above Bid.
-fn ask(bid: Fix8, spread: u32, digits: u8) -> Fix8
-    requires bid { IsPrice bid }
-    requires spread { spread ≤ 1000000 }
-    requires digits { digits ≤ 8 }
-    ensures value { result ≡ bid +ℤ pos (spread * point digits) }
-    ensures from { bid ≤ℤ result }
-    ensures to { result ≤ℤ (bid +ℤ pos (10 ^ 14)) }
-{
-    Fix8::of_units(bid.units() + spread as i64 * point(digits))
-}
-
-/// When the bar is at a stage, in milliseconds.
-fn time_at(bar: &Bar, stage: Stage) -> i64
-    requires { IsBar bar.now }
-    ensures value { result ≡ (bar.now.time +ℤ pos (seconds_at stage)) *ℤ pos 1000 }
-    ensures from { pos 0 ≤ℤ result }
-    ensures to { result ≤ℤ pos 32503679999000 }
-{
-    (bar.time + stage.seconds()) * 1000
-}
-
-/// A quote of these prices.
-fn quote_of(time_ms: i64, bid: Fix8, ask: Fix8, loud: bool) -> Quote
-    ensures { result
-        ≡ record { symbol = 0; time_ms = time_ms; bid = bid; ask = ask; last = pos 0; volume = pos 0; flags = 6; loud = loud } }
-{
-    Quote {
-        symbol: 0,
-        time_ms,
-        bid,
-        ask,
-        last: Fix8::of_units(0),
-        volume: Fix8::of_units(0),
-        flags: 6,
-        loud,
-    }
-}
-
-/// The quote of a bar at a stage.
-fn quote_at(bar: &Bar, digits: u8, stage: Stage) -> Quote
-    requires bar { IsBar bar.now }
-    requires digits { digits ≤ 8 }
-    ensures value { result ≡ quote digits bar.now (seconds_at stage) (price_at bar.now stage) (is_loud stage) }
-    ensures ranges { IsQuote result }
-{
-    let bid = price_at(bar, stage);
-    let ask = ask(bid, bar.spread, digits);
-    quote_of(time_at(bar, stage), bid, ask, stage.is_loud())
-}
-
-/// The quotes of bars at opening prices, one at a time. Contracts see the quotes that are left.
+/// The quotes of a market, one at a time. Contracts see the quotes that are left.
 #[derive(Drop)]
 pub struct Quotes<'a> {
-    bars: &'a [Bar],
-    digits: u8,
-    stage: Stage,
+    bars: BarQuotes<'a>,
+    ticks: &'a [Tick],
 }
 
 impl<'a> Model for Quotes<'a> {
-    ghost use Rattle.std.specs.Prelude.{List, ◌≤◌, All};
+    ghost use Rattle.std.specs.Prelude.{List, ◌++◌, map, All};
     ghost use Rattle.market_types.specs.declared.quote.Quote.{Quote};
-    ghost use Rattle.market_data.specs.BarsFile.{IsBar};
-    ghost use Rattle.market_data.specs.Stages.{quotes_left};
+    ghost use Rattle.market_types.specs.Ordered.{IsTick};
+    ghost use Rattle.market_data.specs.Quotes.{tick_quote};
 
     ghost Value = { List Quote };
 
-    ghost view = { λ q. quotes_left q.digits q.bars.now q.stage };
+    ghost view = { λ q. q.bars ++ map tick_quote q.ticks.now };
 
-    ghost invariant = { λ q. (q.digits ≤ 8) × All IsBar q.bars.now };
+    ghost invariant = { λ q. All IsTick q.ticks.now };
+}
+
+/// The quote of a tick.
+fn tick_quote(tick: &Tick) -> Quote
+    requires { IsTick tick.now }
+    ensures value { result ≡ tick_quote tick.now }
+    ensures ranges { IsQuote result }
+{
+    Quote {
+        symbol: 0,
+        time_ms: tick.time_ms,
+        bid: tick.bid,
+        ask: tick.ask,
+        last: tick.last,
+        volume: tick.volume,
+        flags: tick.flags,
+        loud: true,
+    }
+}
+
+/// The period whose bars tell which quotes are loud, where not all are.
+fn heard_by(mode: Mode, period: Period) -> Option<Period>
+    ensures { result ≡ heard_by mode period }
+{
+    match mode {
+        Mode::Opening => Some(period),
+        Mode::Ohlc | Mode::Ticks => None,
+    }
 }
 
 impl<'a> Quotes<'a> {
-    /// All the quotes of bars of a symbol whose prices show so many digits.
-    #[tactic(auto, using(crate::proofs::Times::quotes_timed))]
-    pub fn start(bars: &'a BarList, digits: u8) -> Quotes<'a>
-        requires bars { All IsBar bars.now }
-        requires digits { digits ≤ 8 }
-        ensures value { result ≡ opening_quotes digits bars.now }
-        ensures timed { is_rising bars.now ≡ true → AreTimed result }
+    /// The quotes of ticks.
+    fn of_ticks(ticks: &'a [Tick]) -> Quotes<'a>
+        requires { All IsTick ticks.now }
+        ensures { result ≡ map tick_quote ticks.now }
     {
         Quotes {
-            bars: bars.as_slice(),
-            digits,
-            stage: Stage::Opening,
+            bars: BarQuotes::start(&[], None, 0, None),
+            ticks,
         }
     }
 
-    /// The next quote; `None` exactly after the last.
+    /// The quotes of bars.
+    fn of_bars(bars: &'a [Bar], spec: &SymbolSpec, period: Option<Period>) -> Quotes<'a>
+        requires bars { All IsBar bars.now }
+        requires spec { IsSpec spec.now }
+        ensures { result ≡ heard period None (bar_quotes spec.now.spread spec.now.digits bars.now) }
+    {
+        Quotes {
+            bars: BarQuotes::start(bars, spec.spread, spec.digits, period),
+            ticks: &[],
+        }
+    }
+
+    /// The quotes of a symbol.
+    fn of_rows(mode: Mode, period: Period, spec: &SymbolSpec, rows: &'a Rows) -> Quotes<'a>
+        requires spec { IsSpec spec.now }
+        requires rows { AreRows mode rows.now }
+        ensures { result ≡ quotes_of_rows mode period spec.now rows.now }
+    {
+        match rows {
+            Rows::Ticks(ticks) => Quotes::of_ticks(ticks.as_slice()),
+            Rows::Bars(bars) => Quotes::of_bars(bars.as_slice(), spec, heard_by(mode, period)),
+        }
+    }
+
+    /// All the quotes of a market, whose times do not fall. They are made one at a time, and take no memory.
+    #[tactic(auto, using(crate::proofs::Times::rows_are_timed, crate::proofs::Counts::rows_are_few))]
+    pub fn start(market: &'a Market) -> Quotes<'a>
+        ensures value { result ≡ quotes market.now }
+        ensures timed { AreTimed result }
+        ensures few { length result ≤ 16000000 }
+    {
+        match market.first() {
+            Some(listed) => Quotes::of_rows(
+                market.mode(),
+                market.period(),
+                &listed.spec,
+                &listed.rows,
+            ),
+            None => Quotes::of_ticks(&[]),
+        }
+    }
+
+    /// The next quote; `None` exactly after the last. It takes no memory.
     pub fn next(&mut self) -> Option<Quote>
         ensures next { MatchOption result ((self.old ≡ []) × (self.new ≡ [])) (λ quote. self.old ≡ quote ∷ self.new) }
         ensures ranges { IfSome result IsQuote }
     {
-        let [bar, rest @ ..] = self.bars else {
+        if let Some(quote) = self.bars.next() {
+            return Some(quote);
+        }
+        let [tick, rest @ ..] = self.ticks else {
             return None;
         };
-        let quote = quote_at(bar, self.digits, self.stage);
-        match self.stage {
-            Stage::Opening => {
-                self.stage = Stage::Early;
-                Some(quote)
-            }
-            Stage::Early => {
-                self.stage = Stage::Late;
-                Some(quote)
-            }
-            Stage::Late => {
-                self.stage = Stage::Closing;
-                Some(quote)
-            }
-            Stage::Closing => {
-                self.stage = Stage::Opening;
-                self.bars = rest;
-                Some(quote)
-            }
-        }
+        self.ticks = rest;
+        Some(tick_quote(tick))
     }
 }

@@ -1,122 +1,100 @@
-//! Worked files.
+//! Worked markets.
+ghost use Rattle.std.specs.Prelude.{IfOk};
+ghost use Rattle.market_types.specs.Ranges.{IsSpec};
 
-use crate::{Bar, BarList, Quotes, RowFault, read_bars};
-use fx8::Fix8;
+use crate::{Market, Mode, Period, Quotes, Rows, SymbolSpec, read_bars, read_ticks};
+use fx8::{OutOfMemory, Text8};
 use std::alloc::Global;
 use std::test::Fail;
 
-const HEADER: &[u8] = b"<DATE>,<TIME>,<OPEN>,<HIGH>,<LOW>,<CLOSE>,<TICKVOL>,<VOL>,<SPREAD>\n";
+/// Bars of two minutes in turn, of which the first closes where it opens and the second falls, and a bar of the next five minutes.
+const BARS: &[u8] =
+    b"<DATE>,<TIME>,<OPEN>,<HIGH>,<LOW>,<CLOSE>,<TICKVOL>,<VOL>,<SPREAD>
+2020.01.02,10:00:00,1.1,1.1005,1.0995,1.1,4,0,10
+2020.01.02,10:01:00,1.2,1.2001,1.1999,1.1999,4,0,10
+2020.01.02,10:05:00,1.3,1.3,1.3,1.3,4,0,10
+";
 
-/// Rows that have the form.
-const GOOD: [&[u8]; 5] = [
-    b"",
-    b"2020.01.02,10:00:00,1.1,1.1005,1.0995,1.1,4,0,10\n",
-    b"\n2020.01.02,10:00:00,1.1,1.1005,1.0995,1.1,4,0,10\n\n",
-    b"1970.01.01,00:00:00,0.00000001,10000000,0.00000001,10000000.00000000,18446744073709551615,18446744073709551615,1000000\n",
-    b"2024.02.29,23:58:00,1,1,1,1,0,0,0\n2999.12.31,23:59:00,1,1,1,1,0,0,0\n",
-];
+const TICKS: &[u8] = b"<DATE>,<TIME>,<BID>,<ASK>,<LAST>,<VOLUME>,<FLAGS>
+2020.01.02,10:00:00.100,1.1,1.1002,,,6
+2020.01.02,10:00:00.100,,1.1003,,,4
+";
 
-/// Rows that leave the form, each in a way of its own.
-const BAD: [&[u8]; 28] = [
-    b"2020.01.02,10:00:00,1.1,1.1005,1.0995,1.1,4,0,10",
-    b"2020.01.02,10:00:00,1.1,1.1005,1.0995,1.1,4,0,10\r\n",
-    b"2020.01.02,10:00:00,1.1,1.1005,1.0995,1.1,4,0\n",
-    b"2020.01.02,10:00:00,1.1,1.1005,1.0995,1.1,4,0,10,\n",
-    b"2020.01.02\t10:00:00\t1.1\t1.1005\t1.0995\t1.1\t4\t0\t10\n",
-    b"\"2020.01.02\",10:00:00,1.1,1.1005,1.0995,1.1,4,0,10\n",
-    b"2020.1.02,10:00:00,1.1,1.1005,1.0995,1.1,4,0,10\n",
-    b"2020-01-02,10:00:00,1.1,1.1005,1.0995,1.1,4,0,10\n",
-    b"2021.02.29,10:00:00,1.1,1.1005,1.0995,1.1,4,0,10\n",
-    b"1969.12.31,10:00:00,1.1,1.1005,1.0995,1.1,4,0,10\n",
-    b"3000.01.01,10:00:00,1.1,1.1005,1.0995,1.1,4,0,10\n",
-    b"2020.01.02,24:00:00,1.1,1.1005,1.0995,1.1,4,0,10\n",
-    b"2020.01.02,10:00:01,1.1,1.1005,1.0995,1.1,4,0,10\n",
-    b"2020.01.02,10:00,1.1,1.1005,1.0995,1.1,4,0,10\n",
-    b"2020.01.02,10:00:00,1.100000000,1.1005,1.0995,1.1,4,0,10\n",
-    b"2020.01.02,10:00:00,0,1.1005,0,1.1,4,0,10\n",
-    b"2020.01.02,10:00:00,1.1,10000000.00000001,1.0995,1.1,4,0,10\n",
-    b"2020.01.02,10:00:00,1.,1.1005,1.0995,1.1,4,0,10\n",
-    b"2020.01.02,10:00:00,-1.1,1.1005,1.0995,1.1,4,0,10\n",
-    b"2020.01.02,10:00:00,1.1,1.1,1.0995,1.1005,4,0,10\n",
-    b"2020.01.02,10:00:00,1.1,1.1005,1.1001,1.1005,4,0,10\n",
-    b"2020.01.02,10:00:00,1.1,1.1005,1.0995,1.1,18446744073709551616,0,10\n",
-    b"2020.01.02,10:00:00,1.1,1.1005,1.0995,1.1,4,,10\n",
-    b"2020.01.02,10:00:00,1.1,1.1005,1.0995,1.1,4,0,1000001\n",
-    b"2020.01.02,10:00:00,1.1,1.1005,1.0995,1.1,4,0,-1\n",
-    b"2020.01.02,10:00:00,1,1,1,1,4,0,10\n2020.01.02,10:00:00,1,1,1,1,4,0,10\n",
-    b"2020.01.02,10:00:00,1.1,1.1005,1.0995,1.1,4,0,10 \n",
-    b"2020.01.02,10:00:00,1.1,1.1005,1.0995,1.1,4,0,10\n\xc3\xa9\n",
-];
-
-/// Texts without the header.
-const HEADLESS: [&[u8]; 4] = [
-    b"",
-    b"<DATE>,<TIME>,<OPEN>,<HIGH>,<LOW>,<CLOSE>,<TICKVOL>,<VOL>,<SPREAD>",
-    b"\xef\xbb\xbf<DATE>,<TIME>,<OPEN>,<HIGH>,<LOW>,<CLOSE>,<TICKVOL>,<VOL>,<SPREAD>\n",
-    b"<DATE>,<TIME>,<OPEN>,<HIGH>,<LOW>,<CLOSE>,<VOL>,<TICKVOL>,<SPREAD>\n",
-];
-
-/// What a file with the header and these rows says.
-fn file(alloc: Global, rows: &[u8]) -> Result<Option<BarList>, Fail> {
-    let mut text = Vec::from_slice(alloc, HEADER)?;
-    text.extend_from_slice(rows)?;
-    said(alloc, text.as_slice())
+/// A symbol of five digits.
+fn symbol(alloc: Global) -> Result<SymbolSpec, OutOfMemory>
+    ensures { IfOk result IsSpec }
+{
+    let name = Text8::from_slice(alloc, b"S")?;
+    let file = Text8::from_slice(alloc, b"s.csv")?;
+    Ok(SymbolSpec::with_defaults(name, file))
 }
 
-/// The bars of a text, `None` where it has not the form.
-fn said(alloc: Global, text: &[u8]) -> Result<Option<BarList>, Fail> {
-    match read_bars(alloc, text) {
-        Ok(bars) => Ok(Some(bars)),
-        Err(RowFault::Rule { row: 0, rule: 10 }) => Ok(None),
-        Err(fault) => Err(fault.into()),
-    }
-}
+/// What is told of a quote: its time, Bid, Ask, and whether it is loud.
+type Told = (i64, i64, i64, bool);
+
+/// The quotes of `BARS` in the mode `Ohlc`; those of the mode `Opening` differ in what is loud.
+const QUOTES: [Told; 12] = [
+    (1577959200000, 110000000, 110010000, true),
+    (1577959220000, 109950000, 109960000, true),
+    (1577959240000, 110050000, 110060000, true),
+    (1577959259000, 110000000, 110010000, true),
+    (1577959260000, 120000000, 120010000, true),
+    (1577959280000, 120010000, 120020000, true),
+    (1577959300000, 119990000, 120000000, true),
+    (1577959319000, 119990000, 120000000, true),
+    (1577959500000, 130000000, 130010000, true),
+    (1577959520000, 130000000, 130010000, true),
+    (1577959540000, 130000000, 130010000, true),
+    (1577959559000, 130000000, 130010000, true),
+];
 
 #[test]
-fn files_with_the_form_and_without(rt: HostRuntime) -> Result<(), Fail> {
-    for rows in &GOOD {
-        assert!(rt; file(rt.alloc(), *rows)?.is_some());
+fn quotes_of_each_mode(rt: HostRuntime) -> Result<(), Fail> {
+    let alloc = rt.alloc();
+    let mut ohlc = Market::new(alloc, Mode::Ohlc, Period::M5);
+    ohlc.add(symbol(alloc)?, Rows::Bars(read_bars(alloc, BARS)?))?;
+    let mut opening = Market::new(alloc, Mode::Opening, Period::M5);
+    opening.add(symbol(alloc)?, Rows::Bars(read_bars(alloc, BARS)?))?;
+    let mut all = Quotes::start(&ohlc);
+    let mut some = Quotes::start(&opening);
+    let mut place = 0;
+    for (time, bid, ask, loud) in &QUOTES {
+        let quote = all.next().ok_or("no quote")?;
+        let same = some.next().ok_or("no quote")?;
+        assert_eq!(rt; quote.time_ms, *time);
+        assert_eq!(rt; quote.bid.units(), *bid);
+        assert_eq!(rt; quote.ask.units(), *ask);
+        assert_eq!(rt; quote.loud, *loud);
+        assert_eq!(rt; quote.flags, 6);
+        assert_eq!(rt; same.time_ms, *time);
+        assert_eq!(rt; same.bid.units(), *bid);
+        assert_eq!(rt; same.loud, place == 0 || place == 8);
+        place += 1;
     }
-    for rows in &BAD {
-        assert!(rt; file(rt.alloc(), *rows)?.is_none());
-    }
-    for text in &HEADLESS {
-        assert!(rt; said(rt.alloc(), *text)?.is_none());
-    }
+    assert!(rt; all.next().is_none());
+    assert!(rt; some.next().is_none());
     Ok(())
 }
 
 #[test]
-fn a_bar_and_its_quotes(rt: HostRuntime) -> Result<(), Fail> {
-    let mut text = Vec::from_slice(rt.alloc(), HEADER)?;
-    text.extend_from_slice(b"2020.01.02,10:00:00,1.1,1.1005,1.0995,1.1,4,0,10\n")?;
-    let bars = read_bars(rt.alloc(), text.as_slice())?;
-    let bar = Bar {
-        time: 1577959200,
-        o: Fix8::of_units(110000000),
-        h: Fix8::of_units(110050000),
-        l: Fix8::of_units(109950000),
-        c: Fix8::of_units(110000000),
-        tick_volume: 4,
-        spread: 10,
-        volume: 0,
-    };
-    assert_eq!(rt; bars.len(), 1);
-    assert_eq!(rt; bars.at(0).copied(), Some(bar));
-    let mut quotes = Quotes::start(&bars, 5);
-    let rows = [
-        (1577959200000, 110000000, 110010000, true),
-        (1577959220000, 109950000, 109960000, false),
-        (1577959240000, 110050000, 110060000, false),
-        (1577959259000, 110000000, 110010000, false),
-    ];
-    for (time, bid, ask, loud) in rows {
-        let quote = quotes.next().ok_or("no quote")?;
-        assert_eq!(rt; quote.time_ms, time);
-        assert_eq!(rt; quote.bid.units(), bid);
-        assert_eq!(rt; quote.ask.units(), ask);
-        assert_eq!(rt; quote.loud, loud);
-    }
+fn quotes_of_ticks(rt: HostRuntime) -> Result<(), Fail> {
+    let alloc = rt.alloc();
+    let mut market = Market::new(alloc, Mode::Ticks, Period::M1);
+    assert_eq!(rt; market.symbols(), 0);
+    market.add(symbol(alloc)?, Rows::Ticks(read_ticks(alloc, TICKS)?))?;
+    assert_eq!(rt; market.symbols(), 1);
+    let mut quotes = Quotes::start(&market);
+    let first = quotes.next().ok_or("no quote")?;
+    assert_eq!(rt; first.time_ms, 1577959200100);
+    assert_eq!(rt; first.ask.units(), 110020000);
+    assert_eq!(rt; first.flags, 6);
+    assert!(rt; first.loud);
+    let second = quotes.next().ok_or("no quote")?;
+    assert_eq!(rt; second.time_ms, 1577959200100);
+    assert_eq!(rt; second.bid.units(), 110000000);
+    assert_eq!(rt; second.ask.units(), 110030000);
+    assert_eq!(rt; second.last.units(), 0);
+    assert!(rt; second.loud);
     assert!(rt; quotes.next().is_none());
     Ok(())
 }

@@ -1,5 +1,5 @@
 //! The periods of bars.
-ghost use Rattle.std.specs.Prelude.{◌≡◌};
+ghost use Rattle.std.specs.Prelude.{◌≡◌, ◌≤◌};
 ghost use Rattle.market_types.specs.Words.{period_name, period_seconds};
 
 /// The length of a bar (MQL5 Reference, enumeration ENUM_TIMEFRAMES).
@@ -39,7 +39,8 @@ impl Period {
 
     /// How many seconds a bar of the period is long.
     pub fn seconds(self) -> u32
-        ensures { result ≡ period_seconds self }
+        ensures value { result ≡ period_seconds self }
+        ensures above { 1 ≤ result }
     {
         match self {
             Period::M1 => 60,

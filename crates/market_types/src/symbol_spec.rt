@@ -1,4 +1,6 @@
 //! The numbers of a symbol.
+ghost use Rattle.std.specs.Prelude.{◌≡◌, None, pos};
+ghost use Rattle.market_types.specs.Ranges.{IsSymbolName, IsSpec};
 
 use fx8::{Fix8, ItemList, Money, Text8};
 
@@ -31,6 +33,35 @@ pub struct SymbolSpec {
     pub swap_short: Money,
     /// The weekday after which a night counts three times, 0 for Sunday to 6.
     pub swap_day: u8,
+}
+
+impl SymbolSpec {
+    /// A symbol whose other numbers are those that settings take where they name none: 5 digits, 100,000 units a lot,
+    /// volumes from 0.01 to 100 in steps of 0.01, no distance of stops, the spread of the rows, no commission and no swap,
+    /// which counts three times after Wednesday.
+    pub fn with_defaults(name: Text8, file: Text8) -> SymbolSpec
+        requires { IsSymbolName name }
+        ensures value { result ≡ record { name = name; file = file; digits = 5; contract = 100000; volume_min = pos 1000000;
+            volume_max = pos 10000000000; volume_step = pos 1000000; stops_level = 0; spread = None; commission = pos 0;
+            swap_long = pos 0; swap_short = pos 0; swap_day = 3 } }
+        ensures ranges { IsSpec result }
+    {
+        SymbolSpec {
+            name,
+            file,
+            digits: 5,
+            contract: 100_000,
+            volume_min: Fix8::of_units(1_000_000),
+            volume_max: Fix8::of_units(10_000_000_000),
+            volume_step: Fix8::of_units(1_000_000),
+            stops_level: 0,
+            spread: None,
+            commission: Money::of_cents(0),
+            swap_long: Money::of_cents(0),
+            swap_short: Money::of_cents(0),
+            swap_day: 3,
+        }
+    }
 }
 
 /// The numbers of symbols, in the order of a market.
