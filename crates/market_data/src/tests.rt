@@ -21,6 +21,7 @@ const TICKS: &[u8] = b"<DATE>,<TIME>,<BID>,<ASK>,<LAST>,<VOLUME>,<FLAGS>
 ";
 
 /// A symbol of five digits.
+#[tactic(auto, using(crate::proofs::NameLaws::letter_named))]
 fn symbol(alloc: Global) -> Result<SymbolSpec, OutOfMemory>
     ensures { IfOk result IsSpec }
 {

@@ -1,11 +1,11 @@
 -- The plan of a command line has one status over given contents, so where it has Done nothing is refused.
-use Rattle.std.proofs.Common.{◌≡◌, ℕ, Bool, true, false, List, [], ◌∷◌, ◌≤◌, inl, inr, length, take, Option, Some, None, Ok, ◌++◌, refl, sym, subst, ◌∙◌}
+use Rattle.std.proofs.Common.{◌≡◌, ℕ, Bool, true, false, List, [], ◌∷◌, ◌≤◌, inl, inr, length, take, Option, Some, None, Ok, Err, ◌++◌, refl, sym, subst, ◌∙◌}
 use Rattle.std.specs.Str.{bytes_eq}
 use Rattle.std.specs.Prelude.{codes}
 use Rattle.tester_io.specs.Outside.{Contents, FilesSeen, SinkSeen, WhereTold}
 use Rattle.mql_mean.specs.declared.tree.Checked.{Checked}
 use Rattle.market_types.specs.declared.bar.Bar.{Bar}
-use Rattle.market_data.specs.BarsFile.{bars_of}
+use Rattle.price_rows.specs.Files.{Judged, bars_of_file}
 use Rattle.tester_answer.specs.declared.status.Status.{Status}
 use Rattle.tester_answer.specs.declared.status.Status.TheVariants.{Done, Usage, Prices}
 use Rattle.tester_answer.specs.Answer.{Plan, Ends, Gives}
@@ -35,12 +35,12 @@ module _ (one : OneAnswer) (alone : OneTree) (talks : MeansTalks) where
   reports_one checked bars held s s' text text' after after' g g' =
       (g.0 ∙ sym g'.0, reports_once talks checked bars text text' g.1 g'.1, g.2 ∙ sym g'.2)
 
-  bars_one : (name : List ℕ) (checked : Checked) (found : Option (List Bar)) → OneEnd (with_bars name found (λ rows. Ends (reports checked rows)))
-  bars_one name checked None = refuses_one (Prices name 0 10)
-  bars_one name checked (Some bars) = reports_one checked bars
+  bars_one : (name : List ℕ) (checked : Checked) (found : Judged Bar) → OneEnd (with_bars name found (λ rows. Ends (reports checked rows)))
+  bars_one name checked (Err fault) = refuses_one (Prices name fault.0 fault.1)
+  bars_one name checked (Ok bars) = reports_one checked bars
 
   bars_read_one : (bars : List ℕ) (checked : Checked) → OneEnd (quick_bars bars checked)
-  bars_read_one bars checked = reads_one bars price_limit (λ bytes. with_bars bars (bars_of bytes) (λ rows. Ends (reports checked rows))) (λ bytes. bars_one bars checked (bars_of bytes))
+  bars_read_one bars checked = reads_one bars price_limit (λ bytes. with_bars bars (bars_of_file bytes) (λ rows. Ends (reports checked rows))) (λ bytes. bars_one bars checked (bars_of_file bytes))
 
   quick_one : (expert bars : List ℕ) → OneEnd (quick_plan expert bars)
   quick_one expert bars =
@@ -76,7 +76,7 @@ module _ (one : OneAnswer) (alone : OneTree) (talks : MeansTalks) where
 -- the reading of the bars is refused
 pub bars_refused : (bars : List ℕ) (checked : Checked) (before now : FilesSeen) (status : Status) (name : List ℕ) → name ≡ bars → ReadingRefused name price_limit before now status → Refused Never (quick_bars bars checked) before now status
 bars_refused bars checked before now status name e r =
-    refused_here Never bars price_limit (λ bytes. with_bars bars (bars_of bytes) (λ rows. Ends (reports checked rows))) before now status
+    refused_here Never bars price_limit (λ bytes. with_bars bars (bars_of_file bytes) (λ rows. Ends (reports checked rows))) before now status
     (subst (λ n. ReadingRefused n price_limit before now status) e r)
 
 -- the sources are refused

@@ -1,12 +1,14 @@
 -- What each command does. Own.
-use Rattle.std.specs.Prelude.{◌≡◌, ℕ, Bool, true, false, map, String, List, [], ◌∷◌, ◌++◌, Option, Some, None, codes}
+use Rattle.std.specs.Prelude.{◌≡◌, ℕ, Bool, true, false, map, String, List, [], ◌∷◌, ◌++◌, Some, None, Ok, Err, codes}
 use Rattle.std.specs.Str.{bytes_eq}
 use Rattle.std.specs.String.{string_bytes}
 use Rattle.std.specs.declared.string.String.{String}
 use Rattle.mql_mean.specs.declared.tree.Checked.{Checked}
 use Rattle.market_types.specs.declared.bar.Bar.{Bar}
-use Rattle.market_data.specs.BarsFile.{bars_of}
-use Rattle.market_data.specs.Quotes.{opening_quotes}
+use Rattle.market_types.specs.declared.quote.Quote.{Quote}
+use Rattle.market_types.specs.declared.period.Period.TheVariants.{M1}
+use Rattle.price_rows.specs.Files.{Judged, bars_of_file}
+use Rattle.market_data.specs.Quotes.{bar_quotes, heard}
 use Rattle.tester_cli.specs.declared.result.PassResult.{PassResult}
 use Rattle.tester_answer.specs.declared.status.Status.TheVariants.{Done, Usage, Prices}
 use Rattle.tester_answer.specs.Answer.{Ending, Plan, Reads, Ends, refuses}
@@ -22,15 +24,19 @@ use Rattle.tester_cli.specs.Report.{IsReport}
 abbrev pub price_limit : ℕ
 price_limit = 536870912
 
--- a bars file that is not of the form that is read so far: row 0, rule 10
-abbrev pub with_bars : List ℕ → Option (List Bar) → (List Bar → Plan) → Plan
-with_bars name None next = refuses (Prices name 0 10)
-with_bars name (Some bars) next = next bars
+-- the bars of a file, or its first row that breaks a rule, with the first rule that it breaks
+abbrev pub with_bars : List ℕ → Judged Bar → (List Bar → Plan) → Plan
+with_bars name (Err fault) next = refuses (Prices name fault.0 fault.1)
+with_bars name (Ok bars) next = next bars
+
+-- the quotes of bars at opening prices of the period M1, for a symbol of 5 digits with the spread of the rows
+abbrev pub opening_quotes : List Bar → List Quote
+opening_quotes bars = heard (Some M1) None (bar_quotes None 5 bars)
 
 -- the report of a pass over the bars at opening prices, for a symbol of 5 digits; no file changes
 pub record Reports (checked : Checked) (bars : List Bar) (text : List ℕ) : Type 0 where
   pub result : PassResult
-  pub passes : Passes checked (opening_quotes 5 bars) result
+  pub passes : Passes checked (opening_quotes bars) result
   pub is_report : IsReport result text
 
 abbrev pub reports : Checked → List Bar → Ending
@@ -38,7 +44,7 @@ reports checked bars held status text after = (status ≡ Done) × Reports check
 
 -- `quick EXPERT BARS`: the expert is read and judged before the bars
 abbrev pub quick_bars : List ℕ → Checked → Plan
-quick_bars bars checked = Reads bars price_limit (λ bytes. with_bars bars (bars_of bytes) (λ rows. Ends (reports checked rows)))
+quick_bars bars checked = Reads bars price_limit (λ bytes. with_bars bars (bars_of_file bytes) (λ rows. Ends (reports checked rows)))
 
 abbrev pub quick_tree : List ℕ → List ℕ → List Source → Tokens → Tree → Plan
 quick_tree expert bars sources tokens tree = with_program expert sources tokens (quick_bars bars) (program tokens tree)

@@ -5,25 +5,23 @@ ghost use Rattle.mql_mean.specs.declared.tree.Entry.{Entry};
 ghost use Rattle.mql_mean.specs.declared.tree.Entry.TheVariants.{Tick};
 ghost use Rattle.mql_lower.specs.Follows.{Follows, Told};
 ghost use Rattle.stack_vm.specs.Valid.{has_entry};
-ghost use Rattle.market_data.specs.BarsFile.{IsBar};
-ghost use Rattle.market_data.specs.Quotes.{opening_quotes};
+ghost use Rattle.market_types.specs.Ordered.{AreBars};
+ghost use Rattle.market_data.specs.Markets.{quotes};
+ghost use Rattle.tester_cli.specs.Commands.{opening_quotes};
 ghost use Rattle.tester_cli.specs.Journal.{TesterStep};
 ghost use Rattle.tester_cli.specs.Pass.{Takes, Passes, PassesFrom, stage, pass_end};
 ghost use Rattle.tester_cli.specs.Times.{IsReportTime};
 
 use crate::result::{PassEnd, PassResult};
 use crate::world::TesterWorld;
-use fx8::OutOfMemory;
-use market_data::{BarList, Quote, Quotes};
+use fx8::{OutOfMemory, Text8};
+use market_data::{BarList, Market, Mode, Period, Quote, Quotes, Rows, SymbolSpec};
 use mql_mean::Entry;
 use stack_vm::{End, Machine, Program};
 use std::alloc::Global;
 
 /// The steps that all calls of a pass may take together.
 const STEPS: u64 = 50_000_000;
-
-/// The decimals of the symbol's prices.
-const DIGITS: u8 = 5;
 
 // One call of OnTick.
 fn tick(
@@ -84,14 +82,31 @@ fn counted(count: u64, counts: bool) -> u64
     if counts { count + 1 } else { count }
 }
 
-/// A pass of a program over bars at opening prices: at each loud quote `OnTick` is called, with 50,000,000 steps for all
-/// calls together. It asks for the ranges that `read_bars` gives.
+/// The market of `quick`: the symbol `SYMBOL` with the default numbers, at opening prices of the period M1, over bars as
+/// `read_bars` gives them.
+#[tactic(auto, using(crate::proofs::QuoteLemmas::symbol_name))]
+pub fn market_of(alloc: Global, file: &str, bars: BarList) -> Result<Market, OutOfMemory>
+    requires { AreBars bars }
+    ensures { IfOk result (λ market. quotes market ≡ opening_quotes bars) }
+{
+    let name = Text8::from_slice(alloc, b"SYMBOL")?;
+    let file = Text8::from_slice(alloc, file.as_bytes())?;
+    let mut market = Market::new(alloc, Mode::Opening, Period::M1);
+    market.add(SymbolSpec::with_defaults(name, file), Rows::Bars(bars))?;
+    Ok(market)
+}
+
+/// A pass of a program over the quotes of a market: at each loud quote `OnTick` is called, with 50,000,000 steps for all
+/// calls together.
 ///
 /// What it comes to is what every source means that the program follows.
-pub fn run_pass(alloc: Global, program: &Program, bars: &BarList) -> Result<PassResult, OutOfMemory>
-    requires bars { All IsBar bars.now }
-    requires few { length bars.now ≤ 4000000 }
-    ensures passes { IfOk result (λ outcome. (checked : Checked) → Follows checked program.now → Passes checked (opening_quotes 5 bars.now) outcome) }
+#[tactic(auto, using(crate::proofs::QuoteLemmas::quote_time))]
+pub fn run_pass(
+    alloc: Global,
+    program: &Program,
+    market: &Market,
+) -> Result<PassResult, OutOfMemory>
+    ensures passes { IfOk result (λ outcome. (checked : Checked) → Follows checked program.now → Passes checked (quotes market.now) outcome) }
     ensures times { IfOk result (λ outcome. All (λ printed. IsReportTime printed.time_ms) outcome.prints) }
 {
     let mut machine = Machine::new(alloc);
@@ -99,7 +114,7 @@ pub fn run_pass(alloc: Global, program: &Program, bars: &BarList) -> Result<Pass
     let mut world = TesterWorld::new(alloc);
     let mut quotes = 0;
     let mut loud = 0;
-    let mut stream = Quotes::start(bars, DIGITS);
+    let mut stream = Quotes::start(market);
     while let Some(quote) = stream.next() {
         let end = take(program, &quote, &mut machine, &mut steps, &mut world)?;
         quotes = counted(quotes, true);

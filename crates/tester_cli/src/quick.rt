@@ -1,8 +1,9 @@
 //! `quick EXPERT BARS`: an expert over a bars file, at opening prices and with the default settings.
-ghost use Rattle.std.specs.Prelude.{◌≡◌, ◌≤◌, [], None, Some, ◌∷◌, length, All, IfOk, IfErr};
+ghost use Rattle.std.specs.Prelude.{◌≡◌, Ok, IfOk, IfErr};
 ghost use Rattle.mql_mean.specs.declared.tree.Checked.{Checked};
 ghost use Rattle.mql_lower.specs.Follows.{Follows};
-ghost use Rattle.market_data.specs.BarsFile.{bars_of, IsBar};
+ghost use Rattle.market_types.specs.Ordered.{AreBars};
+ghost use Rattle.price_rows.specs.Files.{bars_of_file};
 ghost use Rattle.tester_io.specs.Outside.{WhereTold};
 ghost use Rattle.tester_answer.specs.Answer.{Gives};
 ghost use Rattle.tester_answer.specs.Clauses.{OnlyRead, Has, Refused, Never};
@@ -10,7 +11,7 @@ ghost use Rattle.tester_cli.specs.Refusals.{BarsStatus};
 ghost use Rattle.tester_cli.specs.Commands.{quick_plan, quick_bars, Reports};
 
 use crate::compiler::judge_program;
-use crate::pass::run_pass;
+use crate::pass::{market_of, run_pass};
 use crate::report::report_text;
 use fx8::{OutOfMemory, Text8};
 use market_data::{BarList, RowFault, read_bars};
@@ -33,9 +34,8 @@ pub fn named(alloc: Global, name: &str) -> Result<Text8, OutOfMemory>
 
 // The bars of a file, or the status that refuses it.
 fn judge_bars(alloc: Global, name: Text8, bytes: &[u8]) -> Result<BarList, Status>
-    ensures bars { IfOk result (λ bars. bars_of bytes.now ≡ Some bars) }
-    ensures ranges { IfOk result (All IsBar) }
-    ensures few { IfOk result (λ bars. length bars ≤ 4000000) }
+    ensures bars { IfOk result (λ bars. bars_of_file bytes.now ≡ Ok bars) }
+    ensures are { IfOk result AreBars }
     ensures refused { IfErr result (BarsStatus name bytes.now) }
 {
     match read_bars(alloc, bytes) {
@@ -49,13 +49,14 @@ fn judge_bars(alloc: Global, name: Text8, bytes: &[u8]) -> Result<BarList, Statu
     }
 }
 
-// The report of a program over bars.
-fn report(alloc: Global, program: &Program, bars: &BarList) -> Result<Text8, OutOfMemory>
-    requires ranges { All IsBar bars.now }
-    requires few { length bars.now ≤ 4000000 }
-    ensures { IfOk result (λ text. (checked : Checked) → Follows checked program.now → Reports checked bars.now text) }
+// The report of a program over the bars of a file.
+#[tactic(auto, using(crate::proofs::QuoteLemmas::reports_over))]
+fn report(alloc: Global, program: &Program, file: &str, bars: BarList) -> Result<Text8, OutOfMemory>
+    requires { AreBars bars }
+    ensures { IfOk result (λ text. (checked : Checked) → Follows checked program.now → Reports checked bars text) }
 {
-    let outcome = run_pass(alloc, program, bars)?;
+    let market = market_of(alloc, file, bars)?;
+    let outcome = run_pass(alloc, program, &market)?;
     report_text(alloc, &outcome)
 }
 
@@ -75,7 +76,7 @@ fn over_bars<F: Files>(
     let name = named(alloc, bars)?;
     let bytes = read(alloc, files, &name, PRICE_LIMIT)?;
     let rows = judge_bars(alloc, name, bytes.as_slice())?;
-    let text = report(alloc, program, &rows)?;
+    let text = report(alloc, program, bars, rows)?;
     Ok(text)
 }
 

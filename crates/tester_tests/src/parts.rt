@@ -7,7 +7,7 @@ use stack_vm::{End, Entry, Machine, Program};
 use std::alloc::Global;
 use std::test::Fail;
 use tester_cli::compiler::{CompileFault, Source, Sources, compile};
-use tester_cli::pass::run_pass;
+use tester_cli::pass::{market_of, run_pass};
 use tester_cli::result::PassEnd;
 use tester_cli::world::TesterWorld;
 
@@ -60,7 +60,8 @@ fn a_call_spends_a_step_and_prints(rt: HostRuntime) -> Result<(), Fail> {
 fn a_pass_counts_its_quotes(rt: HostRuntime) -> Result<(), Fail> {
     let program = compiled(rt.alloc(), EXPERT)?.ok_or("refused")?;
     let bars = read_bars(rt.alloc(), BARS)?;
-    let outcome = run_pass(rt.alloc(), &program, &bars)?;
+    let market = market_of(rt.alloc(), "bars.csv", bars)?;
+    let outcome = run_pass(rt.alloc(), &program, &market)?;
     assert!(rt; outcome.end == PassEnd::Completed);
     assert_eq!(rt; outcome.quotes, 12);
     assert_eq!(rt; outcome.loud, 3);

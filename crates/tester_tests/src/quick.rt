@@ -9,6 +9,15 @@ use tester_io::{CalmFiles, CalmSink};
 /// The names and bytes of a run that is done.
 const HELD: [(&[u8], &[u8]); 2] = [(b"a.mq5", EXPERT), (b"bars.csv", BARS)];
 
+/// Two bars of one time.
+const TWICE: &[u8] = b"<DATE>,<TIME>,<OPEN>,<HIGH>,<LOW>,<CLOSE>,<TICKVOL>,<VOL>,<SPREAD>\n\
+2020.01.02,10:00:00,1.1,1.1005,1.0995,1.1,4,0,10\n\
+2020.01.02,10:00:00,1.1,1.1006,1.0999,1.1002,7,0,10\n";
+
+/// A bar whose high is below its close.
+const LOW_HIGH: &[u8] = b"<DATE>,<TIME>,<OPEN>,<HIGH>,<LOW>,<CLOSE>,<TICKVOL>,<VOL>,<SPREAD>\n\
+2020.01.02,10:00:00,1.1,1.1005,1.0995,1.1006,4,0,10\n";
+
 const LINE: [&str; 3] = ["quick", "a.mq5", "bars.csv"];
 
 #[test]
@@ -70,7 +79,19 @@ fn tells_the_first_fault_of_words_and_files(rt: HostRuntime) -> Result<(), Fail>
             &LINE,
             &[(b"a.mq5", EXPERT), (b"bars.csv", b"")],
             &[],
-            b"error 4 bars.csv 0 10\n",
+            b"error 4 bars.csv 1 1\n",
+        ),
+        (
+            &LINE,
+            &[(b"a.mq5", EXPERT), (b"bars.csv", TWICE)],
+            &[],
+            b"error 4 bars.csv 3 5\n",
+        ),
+        (
+            &LINE,
+            &[(b"a.mq5", EXPERT), (b"bars.csv", LOW_HIGH)],
+            &[],
+            b"error 4 bars.csv 2 6\n",
         ),
         (
             &["quick", "bars.csv", "a.mq5"],
@@ -82,7 +103,7 @@ fn tells_the_first_fault_of_words_and_files(rt: HostRuntime) -> Result<(), Fail>
             &["quick", "a.mq5", "a.mq5"],
             &HELD,
             &[],
-            b"error 4 a.mq5 0 10\n",
+            b"error 4 a.mq5 1 1\n",
         ),
     ];
     for (line, held, fails, want) in &table {

@@ -1,22 +1,20 @@
 use Rattle.std.proofs.Common.{◌+◌, length, refl, sym, ap, subst, arith, cond}
-use Rattle.market_data.specs.Quotes.{opening_quotes}
+use Rattle.market_data.specs.Markets.{quotes}
 use Rattle.tester_cli.specs.Pass.{stage}
-use Rattle.tester_cli.proofs.QuoteLemmas.{AreLoudTimes, loud_times, quote_count}
 use Rattle.tester_cli.proofs.PassLemmas.{starts_here, nothing_printed, ends_now}
 use Rattle.tester_cli.proofs.pass.run_pass.Goals as goal
 
 pub loop-quote-init : goal.loop-quote-init
 loop-quote-init c = record {
   goes_on = λ checked follows result passes.
-      starts_here checked (opening_quotes 5 c.args.bars.now) _ _ _ result c.start-stream.ensures.value c.new-machine.ensures c.new-world.ensures passes;
-  count = omega (arith, ap length c.start-stream.ensures.value);
+      starts_here checked (quotes c.args.market.now) _ _ _ result c.start-stream.ensures.value c.new-machine.ensures c.new-world.ensures passes;
+  count = omega (arith, c.start-stream.ensures.few);
   loud_count = omega arith;
-  in_time = subst AreLoudTimes (sym c.start-stream.ensures.value) (loud_times c.args.bars.now c.requires.bars);
   prints = nothing_printed c.new-world.result c.new-world.ensures;
 }
 
 pub counted-quotes-requires : goal.counted-quotes-requires
-counted-quotes-requires c = omega (arith, c.loop-quote.invariant.count, quote_count c.args.bars.now, c.requires.few)
+counted-quotes-requires c = omega (arith, c.loop-quote.invariant.count, ap length c.in-Some.ensures.next)
 
 pub returns-in-Some-end-clause-passes : goal.returns-in-Some-end-clause-passes
 returns-in-Some-end-clause-passes c =

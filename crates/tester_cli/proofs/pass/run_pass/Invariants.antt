@@ -2,20 +2,18 @@ use Rattle.std.proofs.Common.{◌≡◌, ◌+◌, ◌≤◌, length}
 use Rattle.std.specs.Prelude.{All}
 use Rattle.mql_mean.specs.declared.tree.Checked.{Checked}
 use Rattle.mql_lower.specs.Follows.{Follows}
-use Rattle.market_data.specs.Quotes.{opening_quotes}
+use Rattle.market_data.specs.Markets.{quotes}
 use Rattle.tester_cli.specs.declared.result.PassResult.{PassResult}
 use Rattle.tester_cli.specs.declared.result.Printed.{Printed}
 use Rattle.tester_cli.specs.Pass.{Passes, PassesFrom, stage}
 use Rattle.tester_cli.specs.Times.{IsReportTime}
-use Rattle.tester_cli.proofs.QuoteLemmas.{AreLoudTimes}
 use Rattle.tester_cli.proofs.pass.run_pass.Given as goal
 
 abbrev pub invariant-loop-quote : goal.invariant-loop-quote
 invariant-loop-quote l = record {
-  goes_on : (checked : Checked) → Follows checked l.program → (result : PassResult) → PassesFrom checked l.stream (stage l.machine l.steps l.world l.quotes l.loud) result → Passes checked (opening_quotes 5 l.bars) result;
-  count : l.quotes + length l.stream ≡ length (opening_quotes 5 l.bars);
+  goes_on : (checked : Checked) → Follows checked l.program → (result : PassResult) → PassesFrom checked l.stream (stage l.machine l.steps l.world l.quotes l.loud) result → Passes checked (quotes l.market) result;
+  count : l.quotes + length l.stream ≤ 16000000;
   loud_count : l.loud ≤ l.quotes;
-  in_time : AreLoudTimes l.stream;
   prints : All (λ (printed : Printed). IsReportTime printed.time_ms) l.world.prints;
 }
 
