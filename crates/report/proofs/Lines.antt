@@ -16,7 +16,6 @@ use Rattle.market_data.specs.Quotes.{quotes_of_bar, bar_quotes, with_loud, is_he
 use Rattle.report.specs.Pieces.{Appends}
 use Rattle.report.specs.Quotes.{name_in, IsQuoteLine, IsLineIn, AreQuoteLines}
 
-
 firsts_of_bar : (spread : Option ℕ) (digits : ℕ) (bar : Bar) → All (λ (q : Quote). q.symbol ≡ 0) (quotes_of_bar spread digits bar)
 firsts_of_bar spread digits bar = All-from_recursion (λ (q : Quote). q.symbol ≡ 0) (quotes_of_bar spread digits bar) (refl, (refl, (refl, (refl, tt))))
 

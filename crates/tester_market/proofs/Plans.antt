@@ -1,6 +1,6 @@
 -- How the readings of settings and prices make the answer of a command.
 use Rattle.std.proofs.Common.{◌≡◌, ℕ, List, [], ◌∷◌, ◌++◌, Option, Some, Result, Ok, Err, refl, sym, ap, subst, ◌∙◌, arith}
-use Rattle.tester_io.specs.Outside.{Contents}
+use Rattle.tester_io.specs.Outside.{Contents, FilesSeen}
 use Rattle.market_types.specs.declared.mode.Mode.{Mode}
 use Rattle.market_types.specs.declared.rows.Rows.{Rows}
 use Rattle.market_types.specs.declared.symbol_spec.SymbolSpec.{SymbolSpec}
@@ -14,15 +14,11 @@ use Rattle.settings_file.specs.Settings.{AreSettingsOf}
 use Rattle.settings_file.proofs.OneAnswer.{one_answer}
 use Rattle.tester_answer.specs.declared.status.Status.{Status}
 use Rattle.tester_answer.specs.declared.status.Status.TheVariants as status
-use Rattle.tester_answer.specs.Answer.{Plan, Reads, Finds, Gives, refuses}
-use Rattle.tester_answer.specs.Clauses.{ReadCounts, NoneFell, IsReading, ReadingRefused, Refused, Never}
-use Rattle.tester_answer.proofs.PlanLemmas.{Leads, leads_same, leads_on, leads_reading, leads_finding, leads_never, leads_both_read, leads_both_find, refused_here, refused_on}
-use Rattle.tester_answer.proofs.OneStatus.{OneStatus, refuses_one, reads_one, finds_one}
+use Rattle.tester_answer.specs.Answer.{Plan, Reads, Finds, Gives, OneEnd, refuses}
+use Rattle.tester_answer.specs.Clauses.{OnlyRead, IsReading, ReadingRefused, Refused, Never}
+use Rattle.tester_answer.proofs.PlanLemmas.{Leads, leads_same, leads_on, leads_reading, leads_finding, leads_never, leads_both_read, leads_both_find, refused_here, refused_on, only_read_same}
+use Rattle.tester_answer.proofs.OneEnd.{refuses_one, reads_one, finds_one}
 use Rattle.tester_market.specs.Reading.{settings_limit, price_limit, never, with_settings, settings_plan, rows_of, with_rows, rows_plan, listed_plan, market_plan, HasSettings, HasRows, HasMarket, SettingsStatus, RowsStatus}
-
--- nothing fell
-pub none_fell_same : (counts : ReadCounts) → NoneFell counts counts
-none_fell_same counts = record { absents = omega arith; read_faults = omega arith; oversizes = omega arith }
 
 with_any : (answer : Result SettingsFile Broken) (next : SettingsFile → Plan) (told : Option Contents) → Leads (with_settings answer next) (with_settings answer (λ file. never)) told
 with_any (Ok file) next told = leads_never (next file) told
@@ -48,27 +44,27 @@ pub settings_lead : (need : Expert) (name : List ℕ) (next : SettingsFile → P
 settings_lead need name next told file h = found_leads need name next told h.bytes (Ok file) h.reading h.are
 
 -- the reading of the settings is refused
-pub settings_unread : (need : Expert) (name : List ℕ) (told : Option Contents) (before now : ReadCounts) (s : Status) → ReadingRefused name settings_limit told before now s → Refused Never (settings_plan need name (λ file. never)) told before now s
-settings_unread need name told before now s r =
-    refused_here Never name settings_limit (λ bytes. Finds (Result SettingsFile Broken) (AreSettingsOf need bytes) (λ answer. with_settings answer (λ file. never))) told before now s r
+pub settings_unread : (need : Expert) (name : List ℕ) (before now : FilesSeen) (s : Status) → ReadingRefused name settings_limit before now s → Refused Never (settings_plan need name (λ file. never)) before now s
+settings_unread need name before now s r =
+    refused_here Never name settings_limit (λ bytes. Finds (Result SettingsFile Broken) (AreSettingsOf need bytes) (λ answer. with_settings answer (λ file. never))) before now s r
 
 -- the settings are refused
-pub settings_refused : (need : Expert) (name bytes : List ℕ) (told : Option Contents) (before now : ReadCounts) (s : Status) → IsReading name settings_limit told bytes → NoneFell before now → SettingsStatus need bytes s
-    → Refused Never (settings_plan need name (λ file. never)) told before now s
-settings_refused need name bytes told before now (status.Settings rule key) r fell h =
-    refused_on Never (settings_plan need name (λ file. never)) (refuses (status.Settings rule key)) told before now now (status.Settings rule key)
-    (found_leads need name (λ file. never) told bytes (Err (rule, key)) r h) fell (λ held is. (refl, refl, refl))
-settings_refused need name bytes told before now status.OutOfMemory r fell h = tt
-settings_refused need name bytes told before now status.Done r fell h = absurd h
-settings_refused need name bytes told before now (status.Usage rule) r fell h = absurd h
-settings_refused need name bytes told before now (status.Source given) r fell h = absurd h
-settings_refused need name bytes told before now (status.Prices file row rule) r fell h = absurd h
-settings_refused need name bytes told before now (status.CodeFile rule place) r fell h = absurd h
-settings_refused need name bytes told before now (status.Grid rule input) r fell h = absurd h
-settings_refused need name bytes told before now (status.Absent which) r fell h = absurd h
-settings_refused need name bytes told before now (status.ReadFault which) r fell h = absurd h
-settings_refused need name bytes told before now status.WriteFault r fell h = absurd h
-settings_refused need name bytes told before now (status.TooLarge which) r fell h = absurd h
+pub settings_refused : (need : Expert) (name bytes : List ℕ) (before now : FilesSeen) (s : Status) → IsReading name settings_limit before.told bytes → OnlyRead before now → SettingsStatus need bytes s
+    → Refused Never (settings_plan need name (λ file. never)) before now s
+settings_refused need name bytes before now (status.Settings rule key) r fell h =
+    refused_on Never (settings_plan need name (λ file. never)) (refuses (status.Settings rule key)) before now now (status.Settings rule key)
+    (found_leads need name (λ file. never) before.told bytes (Err (rule, key)) r h) fell (λ held is. (refl, refl, refl))
+settings_refused need name bytes before now status.OutOfMemory r fell h = tt
+settings_refused need name bytes before now status.Done r fell h = absurd h
+settings_refused need name bytes before now (status.Usage rule) r fell h = absurd h
+settings_refused need name bytes before now (status.Source given) r fell h = absurd h
+settings_refused need name bytes before now (status.Prices file row rule) r fell h = absurd h
+settings_refused need name bytes before now (status.CodeFile rule place) r fell h = absurd h
+settings_refused need name bytes before now (status.Grid rule input) r fell h = absurd h
+settings_refused need name bytes before now (status.Absent which) r fell h = absurd h
+settings_refused need name bytes before now (status.ReadFault which) r fell h = absurd h
+settings_refused need name bytes before now status.WriteFault r fell h = absurd h
+settings_refused need name bytes before now (status.TooLarge which) r fell h = absurd h
 
 rows_any_with : (name : List ℕ) (answer : Result Rows (ℕ × ℕ)) (next : Rows → Plan) (told : Option Contents) → Leads (with_rows name answer next) (with_rows name answer (λ found. never)) told
 rows_any_with name (Ok found) next told = leads_never (next found) told
@@ -92,49 +88,49 @@ pub rows_lead : (mode : Mode) (name : List ℕ) (next : Rows → Plan) (told : O
 rows_lead mode name next told found h = judged_leads mode name next told h.bytes (Ok found) h.reading h.are
 
 -- the reading of a price file is refused
-pub rows_unread : (mode : Mode) (name : List ℕ) (told : Option Contents) (before now : ReadCounts) (s : Status) → ReadingRefused name price_limit told before now s → Refused Never (rows_plan mode name (λ found. never)) told before now s
-rows_unread mode name told before now s r = refused_here Never name price_limit (λ bytes. with_rows name (rows_of mode bytes) (λ found. never)) told before now s r
+pub rows_unread : (mode : Mode) (name : List ℕ) (before now : FilesSeen) (s : Status) → ReadingRefused name price_limit before now s → Refused Never (rows_plan mode name (λ found. never)) before now s
+rows_unread mode name before now s r = refused_here Never name price_limit (λ bytes. with_rows name (rows_of mode bytes) (λ found. never)) before now s r
 
 -- the rows are refused
-pub rows_refused : (mode : Mode) (name bytes : List ℕ) (told : Option Contents) (before now : ReadCounts) (s : Status) → IsReading name price_limit told bytes → NoneFell before now → RowsStatus mode name bytes s
-    → Refused Never (rows_plan mode name (λ found. never)) told before now s
-rows_refused mode name bytes told before now (status.Prices file row rule) r fell (named, e) =
-    refused_on Never (rows_plan mode name (λ found. never)) (refuses (status.Prices name row rule)) told before now now (status.Prices file row rule)
-    (judged_leads mode name (λ found. never) told bytes (Err (row, rule)) r e) fell (λ held is. (ap (λ (n : List ℕ). status.Prices n row rule) named, refl, refl))
-rows_refused mode name bytes told before now status.OutOfMemory r fell h = tt
-rows_refused mode name bytes told before now status.Done r fell h = absurd h
-rows_refused mode name bytes told before now (status.Usage rule) r fell h = absurd h
-rows_refused mode name bytes told before now (status.Source given) r fell h = absurd h
-rows_refused mode name bytes told before now (status.Settings rule key) r fell h = absurd h
-rows_refused mode name bytes told before now (status.CodeFile rule place) r fell h = absurd h
-rows_refused mode name bytes told before now (status.Grid rule input) r fell h = absurd h
-rows_refused mode name bytes told before now (status.Absent which) r fell h = absurd h
-rows_refused mode name bytes told before now (status.ReadFault which) r fell h = absurd h
-rows_refused mode name bytes told before now status.WriteFault r fell h = absurd h
-rows_refused mode name bytes told before now (status.TooLarge which) r fell h = absurd h
+pub rows_refused : (mode : Mode) (name bytes : List ℕ) (before now : FilesSeen) (s : Status) → IsReading name price_limit before.told bytes → OnlyRead before now → RowsStatus mode name bytes s
+    → Refused Never (rows_plan mode name (λ found. never)) before now s
+rows_refused mode name bytes before now (status.Prices file row rule) r fell (named, e) =
+    refused_on Never (rows_plan mode name (λ found. never)) (refuses (status.Prices name row rule)) before now now (status.Prices file row rule)
+    (judged_leads mode name (λ found. never) before.told bytes (Err (row, rule)) r e) fell (λ held is. (ap (λ (n : List ℕ). status.Prices n row rule) named, refl, refl))
+rows_refused mode name bytes before now status.OutOfMemory r fell h = tt
+rows_refused mode name bytes before now status.Done r fell h = absurd h
+rows_refused mode name bytes before now (status.Usage rule) r fell h = absurd h
+rows_refused mode name bytes before now (status.Source given) r fell h = absurd h
+rows_refused mode name bytes before now (status.Settings rule key) r fell h = absurd h
+rows_refused mode name bytes before now (status.CodeFile rule place) r fell h = absurd h
+rows_refused mode name bytes before now (status.Grid rule input) r fell h = absurd h
+rows_refused mode name bytes before now (status.Absent which) r fell h = absurd h
+rows_refused mode name bytes before now (status.ReadFault which) r fell h = absurd h
+rows_refused mode name bytes before now status.WriteFault r fell h = absurd h
+rows_refused mode name bytes before now (status.TooLarge which) r fell h = absurd h
 
-with_settings_one : (answer : Result SettingsFile Broken) (next : SettingsFile → Plan) → ((file : SettingsFile) → OneStatus (next file)) → OneStatus (with_settings answer next)
+with_settings_one : (answer : Result SettingsFile Broken) (next : SettingsFile → Plan) → ((file : SettingsFile) → OneEnd (next file)) → OneEnd (with_settings answer next)
 with_settings_one (Ok file) next each = each file
 with_settings_one (Err broken) next each = refuses_one (status.Settings broken.0 broken.1)
 
 -- a plan over settings has one status where what follows has
-pub settings_one : (need : Expert) (name : List ℕ) (next : SettingsFile → Plan) → ((file : SettingsFile) → OneStatus (next file)) → OneStatus (settings_plan need name next)
+pub settings_one : (need : Expert) (name : List ℕ) (next : SettingsFile → Plan) → ((file : SettingsFile) → OneEnd (next file)) → OneEnd (settings_plan need name next)
 settings_one need name next each =
     reads_one name settings_limit (λ bytes. Finds (Result SettingsFile Broken) (AreSettingsOf need bytes) (λ answer. with_settings answer next))
     (λ bytes. finds_one (Result SettingsFile Broken) (AreSettingsOf need bytes) (λ answer. with_settings answer next) (one_answer need bytes) (λ answer. with_settings_one answer next each))
 
-with_rows_one : (name : List ℕ) (answer : Result Rows (ℕ × ℕ)) (next : Rows → Plan) → ((found : Rows) → OneStatus (next found)) → OneStatus (with_rows name answer next)
+with_rows_one : (name : List ℕ) (answer : Result Rows (ℕ × ℕ)) (next : Rows → Plan) → ((found : Rows) → OneEnd (next found)) → OneEnd (with_rows name answer next)
 with_rows_one name (Ok found) next each = each found
 with_rows_one name (Err fault) next each = refuses_one (status.Prices name fault.0 fault.1)
 
-listed_one : (mode : Mode) (listed : List Listed) (specs : List SymbolSpec) (next : List Listed → Plan) → ((all : List Listed) → OneStatus (next all)) → OneStatus (listed_plan mode listed specs next)
+listed_one : (mode : Mode) (listed : List Listed) (specs : List SymbolSpec) (next : List Listed → Plan) → ((all : List Listed) → OneEnd (next all)) → OneEnd (listed_plan mode listed specs next)
 listed_one mode listed [] next each = each listed
 listed_one mode listed (spec ∷ more) next each =
     reads_one spec.file price_limit (λ bytes. with_rows spec.file (rows_of mode bytes) (λ found. listed_plan mode (listed ++ record { spec = spec; rows = found } ∷ []) more next))
     (λ bytes. with_rows_one spec.file (rows_of mode bytes) (λ found. listed_plan mode (listed ++ record { spec = spec; rows = found } ∷ []) more next)
     (λ found. listed_one mode (listed ++ record { spec = spec; rows = found } ∷ []) more next each))
 
-pub market_one : (settings : Settings) (next : Listing → Plan) → ((market : Listing) → OneStatus (next market)) → OneStatus (market_plan settings next)
+pub market_one : (settings : Settings) (next : Listing → Plan) → ((market : Listing) → OneEnd (next market)) → OneEnd (market_plan settings next)
 market_one settings next each =
     listed_one settings.mode [] settings.symbols (λ listed. next (record { mode = settings.mode; period = settings.period; listed = listed }))
     (λ listed. each (record { mode = settings.mode; period = settings.period; listed = listed }))
@@ -166,9 +162,9 @@ market_lead settings next told market h =
     (subst (λ (specs : List SymbolSpec). Leads (listed_plan settings.mode [] specs k) (k (record { spec = h.spec; rows = h.found } ∷ [])) told) (sym h.only) here)
 
 -- the price file of the one symbol is refused
-pub market_refused : (settings : Settings) (spec : SymbolSpec) (told : Option Contents) (before now : ReadCounts) (s : Status) → settings.symbols ≡ spec ∷ [] → Refused Never (rows_plan settings.mode spec.file (λ found. never)) told before now s
-    → Refused Never (market_plan settings (λ market. never)) told before now s
-market_refused settings spec told before now s only r =
-    subst (λ (specs : List SymbolSpec). Refused Never (listed_plan settings.mode [] specs (λ listed. never)) told before now s) (sym only)
-    (refused_on Never (listed_plan settings.mode [] (spec ∷ []) (λ listed. never)) (rows_plan settings.mode spec.file (λ found. never)) told before before now s
-    (rows_any settings.mode spec.file (λ found. never) told) (none_fell_same before) r)
+pub market_refused : (settings : Settings) (spec : SymbolSpec) (before now : FilesSeen) (s : Status) → settings.symbols ≡ spec ∷ [] → Refused Never (rows_plan settings.mode spec.file (λ found. never)) before now s
+    → Refused Never (market_plan settings (λ market. never)) before now s
+market_refused settings spec before now s only r =
+    subst (λ (specs : List SymbolSpec). Refused Never (listed_plan settings.mode [] specs (λ listed. never)) before now s) (sym only)
+    (refused_on Never (listed_plan settings.mode [] (spec ∷ []) (λ listed. never)) (rows_plan settings.mode spec.file (λ found. never)) before before now s
+    (rows_any settings.mode spec.file (λ found. never) before.told) (only_read_same before) r)

@@ -1,8 +1,6 @@
 //! `quotes SETTINGS`: the quotes that a test over the settings takes.
 ghost use Rattle.std.specs.Prelude.{◌≡◌, IfOk, IfErr};
-ghost use Rattle.tester_io.specs.Outside.{WhereTold};
-ghost use Rattle.tester_answer.specs.Answer.{Gives};
-ghost use Rattle.tester_answer.specs.Clauses.{counts, Refused, Never};
+ghost use Rattle.tester_answer.specs.Clauses.{OnlyRead, Has, Refused, Never};
 ghost use Rattle.tester_market.specs.Quotes.{quotes_plan};
 
 use crate::market::read_market;
@@ -16,11 +14,9 @@ use tester_io::Files;
 
 /// The lines of the quotes that the settings of that name give, or why there are none.
 pub fn quotes<F: Files>(alloc: Global, settings: &str, files: &mut F) -> Result<Text8, Status>
-    ensures same { F.told files.new ≡ F.told files.old }
-    ensures ready { IfOk result (λ text. WhereTold (F.told files.old) (λ held. Gives (quotes_plan settings.now) held Status.Done text held)) }
-    ensures refused { IfErr result (Refused Never (quotes_plan settings.now) (F.told files.old)
-        (counts (F.absents files.old) (F.read_faults files.old) (F.oversizes files.old))
-        (counts (F.absents files.new) (F.read_faults files.new) (F.oversizes files.new))) }
+    ensures only_read { OnlyRead (F.seen files.old) (F.seen files.new) }
+    ensures ready { IfOk result (Has (quotes_plan settings.now) (F.seen files.old)) }
+    ensures refused { IfErr result (Refused Never (quotes_plan settings.now) (F.seen files.old) (F.seen files.new)) }
 {
     let name = Text8::from_slice(alloc, settings.as_bytes())?;
     let file = read_test_settings(alloc, Expert::NotNeeded, &name, files)?;

@@ -1,6 +1,6 @@
 //! The market of settings.
 ghost use Rattle.std.specs.Prelude.{◌≡◌, length, IfOk, IfErr};
-ghost use Rattle.tester_answer.specs.Clauses.{counts, NoneFell, Refused, Never};
+ghost use Rattle.tester_answer.specs.Clauses.{OnlyRead, Refused, Never};
 ghost use Rattle.tester_settings.specs.Ranges.{AreSettings};
 ghost use Rattle.tester_market.specs.Reading.{HasMarket, market_plan, never};
 
@@ -44,13 +44,9 @@ pub fn read_market<F: Files>(
 ) -> Result<Market, Status>
     requires range { AreSettings settings.now }
     requires one { length settings.now.symbols ≡ 1 }
-    ensures same { F.told files.new ≡ F.told files.old }
-    ensures none_fell { NoneFell (counts (F.absents files.old) (F.read_faults files.old) (F.oversizes files.old))
-        (counts (F.absents files.new) (F.read_faults files.new) (F.oversizes files.new)) }
-    ensures read { IfOk result (HasMarket settings.now (F.told files.old)) }
-    ensures refused { IfErr result (Refused Never (market_plan settings.now (λ market. never)) (F.told files.old)
-        (counts (F.absents files.old) (F.read_faults files.old) (F.oversizes files.old))
-        (counts (F.absents files.new) (F.read_faults files.new) (F.oversizes files.new))) }
+    ensures only_read { OnlyRead (F.seen files.old) (F.seen files.new) }
+    ensures read { IfOk result (HasMarket settings.now (F.seen files.old).told) }
+    ensures refused { IfErr result (Refused Never (market_plan settings.now (λ market. never)) (F.seen files.old) (F.seen files.new)) }
 {
     match settings.symbols.as_slice() {
         [spec] => {

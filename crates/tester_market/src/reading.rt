@@ -1,6 +1,6 @@
 //! Settings files and price files.
 ghost use Rattle.std.specs.Prelude.{◌≡◌, Ok, IfOk, IfErr, length};
-ghost use Rattle.tester_answer.specs.Clauses.{counts, NoneFell, Refused, Never};
+ghost use Rattle.tester_answer.specs.Clauses.{OnlyRead, Refused, Never};
 ghost use Rattle.tester_settings.specs.Ranges.{AreSettings};
 ghost use Rattle.settings_file.specs.Settings.{AreSettingsOf};
 ghost use Rattle.market_data.specs.Markets.{AreRows};
@@ -42,15 +42,11 @@ pub fn read_test_settings<F: Files>(
     name: &Text8,
     files: &mut F,
 ) -> Result<SettingsFile, Status>
-    ensures same { F.told files.new ≡ F.told files.old }
-    ensures none_fell { NoneFell (counts (F.absents files.old) (F.read_faults files.old) (F.oversizes files.old))
-        (counts (F.absents files.new) (F.read_faults files.new) (F.oversizes files.new)) }
-    ensures read { IfOk result (HasSettings need name.now (F.told files.old)) }
+    ensures only_read { OnlyRead (F.seen files.old) (F.seen files.new) }
+    ensures read { IfOk result (HasSettings need name.now (F.seen files.old).told) }
     ensures range { IfOk result (λ file. AreSettings file.settings) }
     ensures one { IfOk result (λ file. length file.settings.symbols ≡ 1) }
-    ensures refused { IfErr result (Refused Never (settings_plan need name.now (λ file. never)) (F.told files.old)
-        (counts (F.absents files.old) (F.read_faults files.old) (F.oversizes files.old))
-        (counts (F.absents files.new) (F.read_faults files.new) (F.oversizes files.new))) }
+    ensures refused { IfErr result (Refused Never (settings_plan need name.now (λ file. never)) (F.seen files.old) (F.seen files.new)) }
 {
     let bytes = read(alloc, files, name, SETTINGS_LIMIT)?;
     judge_settings(alloc, need, bytes.as_slice())
@@ -95,14 +91,10 @@ pub fn read_rows<F: Files>(
     name: &Text8,
     files: &mut F,
 ) -> Result<Rows, Status>
-    ensures same { F.told files.new ≡ F.told files.old }
-    ensures none_fell { NoneFell (counts (F.absents files.old) (F.read_faults files.old) (F.oversizes files.old))
-        (counts (F.absents files.new) (F.read_faults files.new) (F.oversizes files.new)) }
-    ensures read { IfOk result (HasRows mode name.now (F.told files.old)) }
+    ensures only_read { OnlyRead (F.seen files.old) (F.seen files.new) }
+    ensures read { IfOk result (HasRows mode name.now (F.seen files.old).told) }
     ensures range { IfOk result (AreRows mode) }
-    ensures refused { IfErr result (Refused Never (rows_plan mode name.now (λ found. never)) (F.told files.old)
-        (counts (F.absents files.old) (F.read_faults files.old) (F.oversizes files.old))
-        (counts (F.absents files.new) (F.read_faults files.new) (F.oversizes files.new))) }
+    ensures refused { IfErr result (Refused Never (rows_plan mode name.now (λ found. never)) (F.seen files.old) (F.seen files.new)) }
 {
     let bytes = read(alloc, files, name, PRICE_LIMIT)?;
     let told = Text8::from_slice(alloc, name.as_slice())?;
