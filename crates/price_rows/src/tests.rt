@@ -225,44 +225,41 @@ fn bars_in_each_form(rt: HostRuntime) -> Result<(), Fail> {
     Ok(())
 }
 
+/// A tick whose last price is 0.
+fn tick_at(time_ms: i64, bid: i64, ask: i64, volume: i64, flags: u32) -> Tick {
+    Tick {
+        time_ms,
+        bid: Fix8::of_units(bid),
+        ask: Fix8::of_units(ask),
+        last: Fix8::of_units(0),
+        volume: Fix8::of_units(volume),
+        flags,
+    }
+}
+
 #[test]
 fn ticks_in_each_form(rt: HostRuntime) -> Result<(), Fail> {
     let alloc = rt.alloc();
-    let first = Tick {
-        time_ms: 1577959200100,
-        bid: Fix8::of_units(110000000),
-        ask: Fix8::of_units(110020000),
-        last: Fix8::of_units(0),
-        volume: Fix8::of_units(0),
-        flags: 6,
-    };
-    let third = Tick {
-        time_ms: 1577959201000,
-        bid: Fix8::of_units(120000000),
-        ask: Fix8::of_units(110030000),
-        last: Fix8::of_units(0),
-        volume: Fix8::of_units(250000000),
-        flags: 0,
-    };
     for text in &TICKS {
         let ticks = read_ticks(alloc, *text)?;
         assert_eq!(rt; ticks.len(), 3);
-        assert_eq!(rt; ticks.at(0).copied(), Some(first));
-        assert_eq!(rt; ticks.at(2).copied(), Some(third));
+        assert_eq!(rt;
+            ticks.at(0).copied(),
+            Some(tick_at(1577959200100, 110000000, 110020000, 0, 6))
+        );
+        assert_eq!(rt;
+            ticks.at(2).copied(),
+            Some(tick_at(1577959201000, 120000000, 110030000, 250000000, 0))
+        );
     }
     let narrow = read_ticks(
         alloc,
         b"<DATE>,<TIME>,<BID>,<ASK>,<LAST>,<VOLUME>\n2020.01.02,10:00:00.100,1.1,1.1002,,\n",
     )?;
-    let bare = Tick {
-        time_ms: 1577959200100,
-        bid: Fix8::of_units(110000000),
-        ask: Fix8::of_units(110020000),
-        last: Fix8::of_units(0),
-        volume: Fix8::of_units(0),
-        flags: 0,
-    };
-    assert_eq!(rt; narrow.at(0).copied(), Some(bare));
+    assert_eq!(rt;
+        narrow.at(0).copied(),
+        Some(tick_at(1577959200100, 110000000, 110020000, 0, 0))
+    );
     Ok(())
 }
 
