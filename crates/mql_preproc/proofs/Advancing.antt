@@ -13,7 +13,7 @@ use Rattle.mql_preproc.specs.declared.state.Open.{Open}
 use Rattle.mql_preproc.specs.declared.state.Left.{Left}
 use Rattle.mql_preproc.specs.declared.state.Reading.{Reading}
 use Rattle.mql_preproc.specs.Names.{place_of}
-use Rattle.mql_preproc.specs.Reading.{most_depth, most_files, begun, entered, with_state, Reads, lexed, Leads, Preprocesses, absent, made, faulty}
+use Rattle.mql_preproc.specs.Reading.{begun, entered, with_state, Reads, lexed, Leads, Preprocesses, absent, made, faulty}
 use Rattle.mql_preproc.specs.Resume.{progress_in, Resumes, all_read, goes_on, stops, finished, Stands}
 use Rattle.mql_preproc.specs.declared.state.Advance.{Advance}
 use Rattle.mql_preproc.specs.declared.state.Advance.TheVariants as advances

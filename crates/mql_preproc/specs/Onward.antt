@@ -19,8 +19,9 @@ use Rattle.mql_preproc.specs.declared.state.Advance.{Advance}
 use Rattle.mql_preproc.specs.declared.state.Advance.TheVariants as advances
 use Rattle.mql_preproc.specs.declared.state.Stop.{Stop}
 use Rattle.mql_preproc.specs.declared.state.Stop.TheVariants as stops
-use Rattle.mql_preproc.specs.Reading.{Deed, Goes, Includes, most_depth, most_files, most_tokens, entered, Replaces, Reads, Leads, Preprocesses}
+use Rattle.mql_preproc.specs.Reading.{Deed, Goes, Includes, entered, Replaces, Reads, Leads, Preprocesses}
 use Rattle.mql_preproc.specs.Resume.{progress_in, Resumes, Stands}
+use Rattle.mql_source.specs.Limits.{most_depth, most_files, most_tokens}
 
 -- this is said of a fault, which is never the need of a file; of want of memory nothing is said
 abbrev pub Ends : PreFault → Type 0 → Type 0

@@ -16,12 +16,7 @@ use crate::word::{is_condition, word_at};
 use fx8::{Numbers, Text8};
 use mql_tree::Span;
 use std::alloc::Global;
-
-/// A file stands at most so deep, the entry at 1.
-const MOST_DEPTH: u32 = 32;
-
-/// So many files are read at most.
-const MOST_FILES: u64 = 512;
+use mql_source::{MOST_DEPTH, MOST_FILES};
 
 fn is_among(file: u32, files: &Numbers) -> bool
     ensures { result ≡ is_among file files.now }

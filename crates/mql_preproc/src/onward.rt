@@ -5,6 +5,7 @@ ghost use Rattle.mql_preproc.specs.Parts.{is_hash};
 ghost use Rattle.mql_preproc.specs.Reading.{begun, entered, end_of, Preprocesses};
 ghost use Rattle.mql_preproc.specs.Resume.{Stands};
 ghost use Rattle.mql_preproc.specs.Onward.{left_open, IsReplaced, IsPastRun, IsPaused, IsOpened, Fits, IsAdvanced, IsStopped, StopFits, HasFewTokens};
+ghost use Rattle.mql_source.specs.Limits.{most_units};
 
 use crate::deed::deed;
 use crate::fault::{PreFault, expand_fault, lex_fault};
@@ -17,9 +18,7 @@ use fx8::{Numbers, OutOfMemory, Stack, Text, Text8};
 use mql_macros::{Macro, MacroList, expand};
 use mql_tree::{Tokens, lex};
 use std::alloc::Global;
-
-/// So many tokens are made at most, before strings are joined.
-const MOST_TOKENS: u64 = 400_000;
+use mql_source::MOST_TOKENS;
 
 /// The name that is defined from the start.
 const MQL5: [u16; 8] = [95, 95, 77, 81, 76, 53, 95, 95];
@@ -178,7 +177,7 @@ fn opened(
     files: Stack<Open>,
 ) -> Result<Reading, PreFault>
     requires place { file < length sources.now }
-    requires short { All (λ s. length s.text ≤ 1048576) sources.now }
+    requires short { All (λ s. length s.text ≤ most_units) sources.now }
     ensures { IsOpened sources.now file state files result }
 {
     let source = &sources.as_slice()[file as usize];
@@ -200,7 +199,7 @@ fn opened(
 #[tactic(auto, unfolding(crate::specs::Onward::IsAdvanced))]
 fn advance(alloc: Global, sources: &Sources, reading: Reading) -> Result<Advance, PreFault>
     requires few { length sources.now ≤ 2 ^ 32 }
-    requires short { All (λ s. length s.text ≤ 1048576) sources.now }
+    requires short { All (λ s. length s.text ≤ most_units) sources.now }
     requires fits { Fits sources.now reading }
     ensures { IsAdvanced sources.now reading result }
 {
@@ -228,7 +227,7 @@ fn advance(alloc: Global, sources: &Sources, reading: Reading) -> Result<Advance
 /// Begins to read the program whose entry is the file of that name.
 pub fn begin(alloc: Global, entry: &Text8, sources: &Sources) -> Result<Reading, PreFault>
     requires few { length sources.now ≤ 2 ^ 32 }
-    requires short { All (λ s. length s.text ≤ 1048576) sources.now }
+    requires short { All (λ s. length s.text ≤ most_units) sources.now }
     ensures stands { IfOk result (Stands entry.now sources.now) }
     ensures fits { IfOk result (Fits sources.now) }
     ensures told { IfErr result (λ fault. Unless fault (Preprocesses entry.now sources.now (Err fault))) }
@@ -243,7 +242,7 @@ pub fn begin(alloc: Global, entry: &Text8, sources: &Sources) -> Result<Reading,
 /// the reading goes on where it stopped.
 pub fn run(alloc: Global, sources: &Sources, reading: Reading) -> Result<Stop, PreFault>
     requires few { length sources.now ≤ 2 ^ 32 }
-    requires short { All (λ s. length s.text ≤ 1048576) sources.now }
+    requires short { All (λ s. length s.text ≤ most_units) sources.now }
     requires fits { Fits sources.now reading }
     ensures exact { (entry : List ℕ) → Stands entry sources.now reading → IsStopped entry sources.now result }
     ensures fits { IfOk result (StopFits sources.now) }
