@@ -6,7 +6,8 @@ use Rattle.mql_preproc.specs.declared.part.Line.{Line}
 use Rattle.mql_preproc.specs.Parts.{begins_directive, run_len, line_len}
 
 -- the next token of a run was taken, or none is left of the run
-abbrev pub TakesNext : ℕ → List (token.Token × Span) → List (token.Token × Span) → Option (token.Token × Span) → Type 0
+abbrev pub TakesNext : ℕ → List (token.Token × Span) → List (token.Token × Span) → Option (token.Token × Span)
+    → Type 0
 TakesNext line_before old new None = (new ≡ old) × (run_len line_before old ≡ 0)
 TakesNext line_before old new (Some t) = (old ≡ t ∷ new) × (begins_directive line_before t ≡ false)
 

@@ -14,9 +14,9 @@ use crate::source::{Source, Sources, place_of};
 use crate::state::{Deed, Progress, State};
 use crate::word::{is_condition, word_at};
 use fx8::{Numbers, Text8};
+use mql_source::{MOST_DEPTH, MOST_FILES};
 use mql_tree::Span;
 use std::alloc::Global;
-use mql_source::{MOST_DEPTH, MOST_FILES};
 
 fn is_among(file: u32, files: &Numbers) -> bool
     ensures { result ≡ is_among file files.now }
@@ -40,7 +40,8 @@ fn is_read(place: Option<u32>, files: &Numbers) -> bool
     }
 }
 
-/// The place of a file that is to be read by a directive in a file of that depth; `None`: it was read already.
+/// The place of a file that is to be read by a directive in a file of that depth; `None`: it was read
+/// already.
 #[tactic(auto, unfolding(crate::specs::Reading::admission))]
 fn admission(
     sources: &Sources,
@@ -51,7 +52,8 @@ fn admission(
 ) -> Result<Option<u32>, PreFault>
     requires { length sources.now ≤ 2 ^ 32 }
     ensures exact { Gives (admission sources.now files.now depth span name) result }
-    ensures within { IfOk result (λ found. IfSome found (λ k. (k < length sources.now) × (depth < 32) × (length files.now < 512))) }
+    ensures within { IfOk result (λ found. IfSome found (λ k. (k < length sources.now) × (depth < 32)
+        × (length files.now < 512))) }
 {
     let place = place_of(sources, name.as_slice());
     if is_read(place, files) {
@@ -71,7 +73,8 @@ fn admission(
 
 /// What a setting leaves in force and open.
 fn settled(span: Span, setting: Setting, progress: Progress) -> Result<Deed, PreFault>
-    ensures exact { Did progress (settled span progress (macros_behind setting progress.state.macros) (conditions_behind span setting progress.state.macros progress.conditions)) result }
+    ensures exact { Did progress (settled span progress (macros_behind setting progress.state.macros)
+        (conditions_behind span setting progress.state.macros progress.conditions)) result }
     ensures within { IfOk result (λ d. IncludesWithin 0 32 d) }
 {
     let Progress { state, conditions } = progress;
@@ -95,7 +98,8 @@ fn included(
     name: Text8,
 ) -> Result<Deed, PreFault>
     requires { length sources.now ≤ 2 ^ 32 }
-    ensures exact { Did progress (admitted progress (admission sources.now progress.state.read depth span name)) result }
+    ensures exact { Did progress (admitted progress
+        (admission sources.now progress.state.read depth span name)) result }
     ensures within { IfOk result (λ d. IncludesWithin (length sources.now) depth d) }
 {
     match admission(sources, &progress.state.read, depth, span, name) {

@@ -1,4 +1,5 @@
-//! The reading of a program, which stops before an include whose file is needed and goes on when that is given.
+//! The reading of a program, which stops before an include whose file is needed and goes on when that is
+//! given.
 ghost use Rattle.std.specs.Prelude.{◌≡◌, ℕ, ◌<◌, ◌≤◌, ◌^◌, List, length, All, Err, false, IfOk, IfErr};
 ghost use Rattle.mql_preproc.specs.Answers.{Unless};
 ghost use Rattle.mql_preproc.specs.Parts.{is_hash};
@@ -16,9 +17,9 @@ use crate::state::{Advance, Deed, Left, Open, Pause, Progress, Reading, State, S
 use crate::string_run::joined;
 use fx8::{Numbers, OutOfMemory, Stack, Text, Text8};
 use mql_macros::{Macro, MacroList, expand};
+use mql_source::MOST_TOKENS;
 use mql_tree::{Tokens, lex};
 use std::alloc::Global;
-use mql_source::MOST_TOKENS;
 
 /// The name that is defined from the start.
 const MQL5: [u16; 8] = [95, 95, 77, 81, 76, 53, 95, 95];
@@ -238,8 +239,8 @@ pub fn begin(alloc: Global, entry: &Text8, sources: &Sources) -> Result<Reading,
     opened(alloc, sources, file, begun(alloc)?, Stack::new(alloc))
 }
 
-/// Reads on, to the end of the program or to an include whose file is needed. When that file was added behind the others
-/// the reading goes on where it stopped.
+/// Reads on, to the end of the program or to an include whose file is needed. When that file was added behind
+/// the others the reading goes on where it stopped.
 pub fn run(alloc: Global, sources: &Sources, reading: Reading) -> Result<Stop, PreFault>
     requires few { length sources.now ≤ 2 ^ 32 }
     requires short { All (λ s. length s.text ≤ most_units) sources.now }
