@@ -15,7 +15,8 @@ parts separator text = slice_split (λ b. b == separator) text
 
 -- a whole number up to a limit: one digit or more
 unfoldable pub whole : ℕ → List ℕ → Option ℕ
-whole limit text = provided (nat_lt 0 (length text) && all_digits text && nat_le (number_after 0 text) limit) (number_after 0 text)
+whole limit text = provided (nat_lt 0 (length text) && all_digits text
+    && nat_le (number_after 0 text) limit) (number_after 0 text)
 
 -- a number without decimals, in units of 10^-places
 abbrev pub plain : ℕ → ℕ → List ℕ → Option ℕ
@@ -24,7 +25,9 @@ plain places limit whole_part = option_map (λ n. n * 10 ^ places) (whole limit 
 -- a number with 1 to so many decimals
 abbrev pub pointed : ℕ → ℕ → List ℕ → List ℕ → Option ℕ
 pointed places limit whole_part decimals =
-    given (whole limit whole_part) (λ n. given (whole 99999999 decimals) (λ k. provided (nat_le (length decimals) places) (n * 10 ^ places + k * 10 ^ (places - length decimals))))
+    given (whole limit whole_part) (λ n. given (whole 99999999 decimals)
+    (λ k. provided (nat_le (length decimals) places)
+    (n * 10 ^ places + k * 10 ^ (places - length decimals))))
 
 abbrev pub of_parts : ℕ → ℕ → List (List ℕ) → Option ℕ
 of_parts places limit [] = None
@@ -42,4 +45,6 @@ is_negative (b ∷ text) = b == 45
 
 -- the same after an optional `-`
 abbrev pub signed : ℕ → ℕ → List ℕ → Option ℤ
-signed places limit text = if is_negative text then option_map (λ n. neg_ℤ (pos n)) (unsigned places limit (drop 1 text)) else option_map pos (unsigned places limit text)
+signed places limit text = if is_negative text
+    then option_map (λ n. neg_ℤ (pos n)) (unsigned places limit (drop 1 text))
+    else option_map pos (unsigned places limit text)

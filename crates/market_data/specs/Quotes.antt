@@ -1,5 +1,5 @@
--- The quotes that rows give (MetaTrader 5 Help, Strategy Tester: Every tick based on real ticks, 1 minute OHLC, Open prices only;
--- the times within a bar are our own).
+-- The quotes that rows give (MetaTrader 5 Help, Strategy Tester: Every tick based on real ticks, 1 minute
+-- OHLC, Open prices only; the times within a bar are our own).
 use Rattle.std.specs.Prelude.{ℕ, ◌-◌, ◌*◌, ◌/◌, ◌^◌, ◌==◌, Bool, true, not, List, [], ◌∷◌, ◌++◌, Option, Some, None, map, if◌then◌else◌, ℤ, pos, ◌+ℤ◌, ◌*ℤ◌, int_le, ◌≤ℤ◌, ◌<ℤ◌, unsigned_abs}
 use Rattle.std.specs.Option.{unwrap_or}
 use Rattle.market_types.specs.Ordered.{IsMoment, IsPrice}
@@ -69,7 +69,8 @@ with_loud loud q = record {
   loud = loud;
 }
 
--- whether a quote is loud: where a period is given, only the first of each of its bars, by the number of the bar before
+-- whether a quote is loud: where a period is given, only the first of each of its bars, by the number of the
+-- bar before
 abbrev pub is_heard : Option Period → Option ℕ → ℤ → Bool
 is_heard None before time_ms = true
 is_heard (Some period) None time_ms = true
@@ -83,7 +84,8 @@ number_at (Some period) time_ms = Some (bar_number period time_ms)
 -- the quotes, of which those are loud that are heard
 unfoldable pub heard : Option Period → Option ℕ → List Quote → List Quote
 heard period before [] = []
-heard period before (q ∷ more) = with_loud (is_heard period before q.time_ms) q ∷ heard period (number_at period q.time_ms) more
+heard period before (q ∷ more) =
+    with_loud (is_heard period before q.time_ms) q ∷ heard period (number_at period q.time_ms) more
 
 -- the loud quote of a tick
 abbrev pub tick_quote : Tick → Quote
@@ -104,10 +106,11 @@ heard_by mode.Ticks period = None
 heard_by mode.Ohlc period = None
 heard_by mode.Opening period = Some period
 
--- the quotes of the rows of a symbol: each tick is one; of bars all are loud in the mode Ohlc, and in the mode Opening the first
--- of each bar of the tested period
+-- the quotes of the rows of a symbol: each tick is one; of bars all are loud in the mode Ohlc, and in the
+-- mode Opening the first of each bar of the tested period
 abbrev pub quotes_of_rows : Mode → Period → SymbolSpec → Rows → List Quote
-quotes_of_rows mode period spec (rows.Bars bars) = heard (heard_by mode period) None (bar_quotes spec.spread spec.digits bars)
+quotes_of_rows mode period spec (rows.Bars bars) =
+    heard (heard_by mode period) None (bar_quotes spec.spread spec.digits bars)
 quotes_of_rows mode period spec (rows.Ticks ticks) = map tick_quote ticks
 
 -- Ask above 0 and at most 1,000,000 points above the greatest price

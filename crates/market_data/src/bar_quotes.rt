@@ -210,8 +210,8 @@ impl<'a> Model for BarQuotes<'a> {
 }
 
 impl<'a> BarQuotes<'a> {
-    /// All the quotes of bars of a symbol whose prices show so many digits. Where a period is given, only the first quote
-    /// of each of its bars is loud.
+    /// All the quotes of bars of a symbol whose prices show so many digits. Where a period is given, only the
+    /// first quote of each of its bars is loud.
     pub(crate) fn start(
         bars: &'a [Bar],
         spread: Option<u32>,
@@ -235,7 +235,8 @@ impl<'a> BarQuotes<'a> {
 
     /// The next quote; `None` exactly after the last.
     pub(crate) fn next(&mut self) -> Option<Quote>
-        ensures next { MatchOption result ((self.old ≡ []) × (self.new ≡ [])) (λ quote. self.old ≡ quote ∷ self.new) }
+        ensures next { MatchOption result ((self.old ≡ [])
+            × (self.new ≡ [])) (λ quote. self.old ≡ quote ∷ self.new) }
         ensures ranges { IfSome result IsQuote }
     {
         let [bar, rest @ ..] = self.bars else {

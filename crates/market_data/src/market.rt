@@ -18,8 +18,8 @@ pub(crate) struct Listed {
     pub(crate) rows: Rows,
 }
 
-/// The market of a test: how its quotes are made, the tested period, and its symbol with the rows of its price file.
-/// Contracts see these.
+/// The market of a test: how its quotes are made, the tested period, and its symbol with the rows of its
+/// price file. Contracts see these.
 #[derive(Debug, Drop)]
 pub struct Market {
     mode: Mode,
@@ -49,7 +49,8 @@ impl Market {
         }
     }
 
-    /// Adds a symbol with its rows: ticks in the mode `Ticks`, and else bars. It asks for a market that has none yet.
+    /// Adds a symbol with its rows: ticks in the mode `Ticks`, and else bars. It asks for a market that has
+    /// none yet.
     ///
     /// # Errors
     ///
@@ -58,7 +59,11 @@ impl Market {
         requires spec { IsSpec spec }
         requires rows { AreRows self.old.mode rows }
         requires none { self.old.listed ≡ [] }
-        ensures ok { OnOk result (self.new ≡ record { mode = self.old.mode; period = self.old.period; listed = record { spec = spec; rows = rows } ∷ [] }) }
+        ensures ok { OnOk result (self.new ≡ record {
+          mode = self.old.mode;
+          period = self.old.period;
+          listed = record { spec = spec; rows = rows } ∷ [];
+        }) }
         ensures err { OnErr result (self.new ≡ self.old) }
     {
         self.listed.push(Listed { spec, rows })
@@ -67,7 +72,8 @@ impl Market {
     /// The symbol of the market, if it has one.
     pub(crate) fn first(&self) -> Option<&Listed>
         ensures { MatchOption result (quotes self.now ≡ [])
-            (λ l. (quotes self.now ≡ quotes_of_rows self.now.mode self.now.period l.now.spec l.now.rows) × IsListed self.now.mode l.now) }
+            (λ l. (quotes self.now ≡ quotes_of_rows self.now.mode self.now.period l.now.spec l.now.rows)
+            × IsListed self.now.mode l.now) }
     {
         self.listed.at(0)
     }

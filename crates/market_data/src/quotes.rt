@@ -114,7 +114,8 @@ impl<'a> Quotes<'a> {
 
     /// The next quote; `None` exactly after the last. It takes no memory.
     pub fn next(&mut self) -> Option<Quote>
-        ensures next { MatchOption result ((self.old ≡ []) × (self.new ≡ [])) (λ quote. self.old ≡ quote ∷ self.new) }
+        ensures next { MatchOption result ((self.old ≡ [])
+            × (self.new ≡ [])) (λ quote. self.old ≡ quote ∷ self.new) }
         ensures ranges { IfSome result IsQuote }
     {
         if let Some(quote) = self.bars.next() {

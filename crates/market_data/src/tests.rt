@@ -7,9 +7,9 @@ use fx8::{OutOfMemory, Text8};
 use std::alloc::Global;
 use std::test::Fail;
 
-/// Bars of two minutes in turn, of which the first closes where it opens and the second falls, and a bar of the next five minutes.
-const BARS: &[u8] =
-    b"<DATE>,<TIME>,<OPEN>,<HIGH>,<LOW>,<CLOSE>,<TICKVOL>,<VOL>,<SPREAD>
+/// Bars of two minutes in turn, of which the first closes where it opens and the second falls, and a bar of
+/// the next five minutes.
+const BARS: &[u8] = b"<DATE>,<TIME>,<OPEN>,<HIGH>,<LOW>,<CLOSE>,<TICKVOL>,<VOL>,<SPREAD>
 2020.01.02,10:00:00,1.1,1.1005,1.0995,1.1,4,0,10
 2020.01.02,10:01:00,1.2,1.2001,1.1999,1.1999,4,0,10
 2020.01.02,10:05:00,1.3,1.3,1.3,1.3,4,0,10

@@ -1,4 +1,5 @@
--- What the rows of a price file keep: their ranges, and the order of their times (MetaTrader 5 Help, export of history).
+-- What the rows of a price file keep: their ranges, and the order of their times (MetaTrader 5 Help, export
+-- of history).
 use Rattle.std.specs.Prelude.{◌≡◌, ℕ, Bool, true, ◌&&◌, ◌%◌, ◌^◌, ◌≤◌, List, [], ◌∷◌, length, All, ℤ, pos, ◌≤ℤ◌, ◌<ℤ◌, int_lt, int_le, unsigned_abs}
 use Rattle.market_types.specs.declared.bar.Bar.{Bar}
 use Rattle.market_types.specs.declared.tick.Tick.{Tick}

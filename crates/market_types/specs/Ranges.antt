@@ -27,7 +27,8 @@ abbrev pub ArePoints : Option ℕ → Type 0
 ArePoints None = ⊤
 ArePoints (Some points) = points ≤ 1000000
 
--- a symbol whose numbers are within their ranges, and whose least and greatest volume are multiples of the step
+-- a symbol whose numbers are within their ranges, and whose least and greatest volume are multiples of the
+-- step
 pub record IsSpec (s : SymbolSpec) : Type 0 where
   pub name : IsSymbolName s.name
   pub digits : s.digits ≤ 8

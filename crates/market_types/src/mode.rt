@@ -9,7 +9,8 @@ pub enum Mode {
     Ticks,
     /// Four quotes of each bar of one minute: 1 minute OHLC.
     Ohlc,
-    /// The same quotes, of which the expert sees the first of each bar of the tested period: open prices only.
+    /// The same quotes, of which the expert sees the first of each bar of the tested period: open prices
+    /// only.
     Opening,
 }
 

@@ -36,14 +36,27 @@ pub struct SymbolSpec {
 }
 
 impl SymbolSpec {
-    /// A symbol whose other numbers are those that settings take where they name none: 5 digits, 100,000 units a lot,
-    /// volumes from 0.01 to 100 in steps of 0.01, no distance of stops, the spread of the rows, no commission and no swap,
-    /// which counts three times after Wednesday.
+    /// A symbol whose other numbers are those that settings take where they name none: 5 digits, 100,000
+    /// units a lot, volumes from 0.01 to 100 in steps of 0.01, no distance of stops, the spread of the rows,
+    /// no commission and no swap, which counts three times after Wednesday.
     pub fn with_defaults(name: Text8, file: Text8) -> SymbolSpec
         requires { IsSymbolName name }
-        ensures value { result ≡ record { name = name; file = file; digits = 5; contract = 100000; volume_min = pos 1000000;
-            volume_max = pos 10000000000; volume_step = pos 1000000; stops_level = 0; spread = None; commission = pos 0;
-            swap_long = pos 0; swap_short = pos 0; swap_day = 3 } }
+        ensures value { result ≡ record {
+          name = name;
+          file = file;
+          digits = 5;
+          contract =
+              100000;
+          volume_min = pos 1000000;
+          volume_max = pos 10000000000;
+          volume_step = pos 1000000;
+          stops_level = 0;
+          spread = None;
+          commission = pos 0;
+          swap_long = pos 0;
+          swap_short = pos 0;
+          swap_day = 3;
+        } }
         ensures ranges { IsSpec result }
     {
         SymbolSpec {

@@ -2,8 +2,8 @@
 
 use fx8::{Fix8, ItemList};
 
-/// The prices after a change: a row of a ticks file (MQL5 Reference, structure MqlTick; MetaTrader 5 Help, export of
-/// ticks).
+/// The prices after a change: a row of a ticks file (MQL5 Reference, structure MqlTick; MetaTrader 5 Help,
+/// export of ticks).
 #[derive(Clone, Copy, Debug, PartialEq, Eq)]
 pub struct Tick {
     /// When the prices changed, in milliseconds since 1970-01-01 00:00.
@@ -16,7 +16,8 @@ pub struct Tick {
     pub last: Fix8,
     /// The volume of the last deal.
     pub volume: Fix8,
-    /// Which prices changed: 2 for Bid, 4 for Ask, 8 for the last price, 16 for the volume, 32 for a buy and 64 for a sell.
+    /// Which prices changed: 2 for Bid, 4 for Ask, 8 for the last price, 16 for the volume, 32 for a buy and
+    /// 64 for a sell.
     pub flags: u32,
 }
 

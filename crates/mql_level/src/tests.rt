@@ -1,7 +1,7 @@
 //! Worked trees, and that a call with memory answers.
 //!
-//! A tree is spelled by words: `[9` begins a node of form 9, `]` ends it, `|` ends a line, `@7` is a leaf of the place 7,
-//! `5u` is a number of another kind, and every other word is a token.
+//! A tree is spelled by words: `[9` begins a node of form 9, `]` ends it, `|` ends a line, `@7` is a leaf of
+//! the place 7, `5u` is a number of another kind, and every other word is a token.
 
 use crate::scope::short;
 use crate::{LevelFault, read_level};

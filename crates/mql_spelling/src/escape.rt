@@ -76,7 +76,8 @@ fn escape_unit(unit: u16) -> Option<u16>
 
 #[tactic(auto, unfolding(crate::specs::Value::text_of))]
 fn plain_step(unit: u16) -> (Escape, Added)
-    ensures step { (rest : List ℕ) → text_of escapes.Plain (unit ∷ rest) ≡ adding result.1 (text_of result.0 rest) }
+    ensures step { (rest : List ℕ)
+        → text_of escapes.Plain (unit ∷ rest) ≡ adding result.1 (text_of result.0 rest) }
     ensures range { IsInRange result.0 }
 {
     if unit == 92 {
@@ -88,7 +89,8 @@ fn plain_step(unit: u16) -> (Escape, Added)
 
 #[tactic(auto, unfolding(crate::specs::Value::text_of))]
 fn started_step(unit: u16) -> (Escape, Added)
-    ensures step { (rest : List ℕ) → text_of escapes.Started (unit ∷ rest) ≡ adding result.1 (text_of result.0 rest) }
+    ensures step { (rest : List ℕ)
+        → text_of escapes.Started (unit ∷ rest) ≡ adding result.1 (text_of result.0 rest) }
     ensures range { IsInRange result.0 }
 {
     if unit == 120 {

@@ -256,5 +256,6 @@ pub(crate) fn spelled_sign(units: &[u16]) -> Option<Sign>
 
 /// A text is a sign exactly where it is that sign's spelling.
 pub fn signs_by_spelling()
-    ensures { (units : List ℕ) (sign : signs.Sign) → (spelled_sign units ≡ Some sign) ↔ (units ≡ sign_spelling sign) }
+    ensures { (units : List ℕ) (sign : signs.Sign) → (spelled_sign units ≡ Some sign)
+        ↔ (units ≡ sign_spelling sign) }
 {}

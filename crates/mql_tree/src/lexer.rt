@@ -130,5 +130,6 @@ pub fn lex(alloc: Global, file: u32, text: &Text) -> Result<Tokens, LexFault>
 
 /// A text has one answer: these tokens, or this first fault.
 pub fn one_answer()
-    ensures { (file : ℕ) (us : List ℕ) (a b : Answer) → Lexes file start us a → Lexes file start us b → a ≡ b }
+    ensures { (file : ℕ) (us : List ℕ) (a b : Answer) → Lexes file start us a → Lexes file start us b
+        → a ≡ b }
 {}

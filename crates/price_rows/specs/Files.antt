@@ -33,7 +33,8 @@ rows_from judge n before (fields ∷ more) =
 -- the bars under a header, which is row 1; rule 1 is broken where it is not that of bars
 abbrev pub bars_under_header : List (List (List ℕ)) → Judged Bar
 bars_under_header [] = Err (1, 1)
-bars_under_header (header ∷ more) = if is_bar_header header then rows_from judged_bar 2 None more else Err (1, 1)
+bars_under_header (header ∷ more) = if is_bar_header header then rows_from judged_bar 2 None more
+    else Err (1, 1)
 
 -- the ticks under a header of so many fields
 abbrev pub ticks_of_width : Option ℕ → List (List (List ℕ)) → Judged Tick

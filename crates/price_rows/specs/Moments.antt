@@ -5,7 +5,8 @@ use Rattle.price_rows.specs.Numbers.{given, provided, parts, whole_of}
 
 -- a day that the calendar has, of the years 1970 to 2999
 abbrev pub is_day : ℕ → ℕ → ℕ → Bool
-is_day year month day = nat_le 1970 year && nat_le 1 month && nat_le 1 day && nat_le day (days_in_month (pos year) month)
+is_day year month day = nat_le 1970 year && nat_le 1 month && nat_le 1 day
+    && nat_le day (days_in_month (pos year) month)
 
 -- the day number of a day from 1970.01.01 to 2999.12.31
 pub record IsDayNumber (day : ℤ) : Type 0 where
@@ -35,13 +36,15 @@ date_of date = given (three (parts 46 date)) (λ p. day_of p.0 p.1 p.2)
 abbrev pub seconds_of_parts : List (List ℕ) → Option ℕ
 seconds_of_parts [] = None
 seconds_of_parts (s ∷ []) = option_map (λ n. n * 1000) (whole_of 2 59 s)
-seconds_of_parts (s ∷ f ∷ []) = given (whole_of 2 59 s) (λ n. given (whole_of 3 999 f) (λ ms. Some (n * 1000 + ms)))
+seconds_of_parts (s ∷ f ∷ []) =
+    given (whole_of 2 59 s) (λ n. given (whole_of 3 999 f) (λ ms. Some (n * 1000 + ms)))
 seconds_of_parts (s ∷ f ∷ more ∷ most) = None
 
 -- the milliseconds since midnight of the parts of a time
 abbrev pub clock_of : List ℕ → List ℕ → List ℕ → Option ℕ
 clock_of h m s =
-    given (whole_of 2 23 h) (λ hours. given (whole_of 2 59 m) (λ minutes. given (seconds_of_parts (parts 46 s))
+    given (whole_of 2 23 h) (λ hours. given (whole_of 2 59 m)
+    (λ minutes. given (seconds_of_parts (parts 46 s))
     (λ ms. Some (hours * 3600000 + minutes * 60000 + ms))))
 
 -- the milliseconds since midnight of a time such as 10:00:00 or 10:00:00.100
@@ -68,4 +71,5 @@ minute_time time = given (three (parts 58 time)) (λ p. minutes_of p.0 p.1 p.2)
 
 -- when a bar opens, in seconds since 1970.01.01 00:00
 abbrev pub minute : List ℕ → List ℕ → Option ℤ
-minute date time = given (minute_time time) (λ m. given (date_of date) (λ day. Some (day *ℤ pos 86400 +ℤ pos (m * 60))))
+minute date time = given (minute_time time)
+    (λ m. given (date_of date) (λ day. Some (day *ℤ pos 86400 +ℤ pos (m * 60))))

@@ -19,7 +19,8 @@ parts separator text = slice_split (λ b. b == separator) text
 
 -- a whole number up to a limit: one digit or more
 unfoldable pub whole : ℕ → List ℕ → Option ℕ
-whole limit text = provided (nat_lt 0 (length text) && all_digits text && nat_le (number_after 0 text) limit) (number_after 0 text)
+whole limit text = provided (nat_lt 0 (length text) && all_digits text
+    && nat_le (number_after 0 text) limit) (number_after 0 text)
 
 -- a whole number of so many digits, up to a limit
 unfoldable pub whole_of : ℕ → ℕ → List ℕ → Option ℕ
@@ -52,7 +53,8 @@ decimal limit text = of_parts limit (parts 46 text)
 
 -- a price: above 0 and at most the greatest
 abbrev pub price : List ℕ → Option ℕ
-price text = given (decimal 10000000 text) (λ units. provided (nat_lt 0 units && nat_le units greatest_price) units)
+price text = given (decimal 10000000 text) (λ units. provided (nat_lt 0 units
+    && nat_le units greatest_price) units)
 
 -- a last price, which may be 0
 abbrev pub last_price : List ℕ → Option ℕ

@@ -1,4 +1,5 @@
--- The row of some fields, or the first rule that they break (MetaTrader 5 Help, export of history and of ticks).
+-- The row of some fields, or the first rule that they break (MetaTrader 5 Help, export of history and of
+-- ticks).
 use Rattle.std.specs.Prelude.{ℕ, ◌-◌, ◌^◌, Bool, true, ◌&&◌, ◌==◌, nat_le, if◌then◌else◌, List, [], ◌∷◌, length, Option, Some, None, option_map, ℤ, pos, int_le, int_lt, codes, Result, Ok, Err}
 use Rattle.std.specs.Option.{unwrap_or}
 use Rattle.std.specs.Str.{bytes_eq}
@@ -55,24 +56,39 @@ bar_text fields = record {
 -- the names of the header of bars
 abbrev pub are_bar_names : BarText → Bool
 are_bar_names f =
-    bytes_eq f.date (codes "<DATE>") && bytes_eq f.time (codes "<TIME>") && bytes_eq f.opening (codes "<OPEN>")
-    && bytes_eq f.high (codes "<HIGH>") && bytes_eq f.low (codes "<LOW>") && bytes_eq f.closing (codes "<CLOSE>")
-    && bytes_eq f.tick_volume (codes "<TICKVOL>") && bytes_eq f.volume (codes "<VOL>") && bytes_eq f.spread (codes "<SPREAD>")
+    bytes_eq f.date (codes "<DATE>") && bytes_eq f.time (codes "<TIME>")
+    && bytes_eq f.opening (codes "<OPEN>")
+    && bytes_eq f.high (codes "<HIGH>") && bytes_eq f.low (codes "<LOW>")
+    && bytes_eq f.closing (codes "<CLOSE>")
+    && bytes_eq f.tick_volume (codes "<TICKVOL>") && bytes_eq f.volume (codes "<VOL>")
+    && bytes_eq f.spread (codes "<SPREAD>")
 
 abbrev pub is_bar_header : List (List ℕ) → Bool
 is_bar_header fields = (length fields == 9) && are_bar_names (bar_text fields)
 
--- the numbers of a bar: prices in units of 10^-8, volumes of 64 bits, and a spread of at most 1,000,000 points
+-- the numbers of a bar: prices in units of 10^-8, volumes of 64 bits, and a spread of at most 1,000,000
+-- points
 abbrev pub bar_numbers : BarText → Option BarNumbers
 bar_numbers f =
-    given (price f.opening) (λ o. given (price f.high) (λ h. given (price f.low) (λ l. given (price f.closing) (λ c.
-    given (whole (2 ^ 64 - 1) f.tick_volume) (λ n. given (whole (2 ^ 64 - 1) f.volume) (λ v. given (whole 1000000 f.spread) (λ s.
-    Some (record { opening = o; high = h; low = l; closing = c; tick_volume = n; volume = v; spread = s }))))))))
+    given (price f.opening) (λ o. given (price f.high)
+    (λ h. given (price f.low) (λ l. given (price f.closing) (λ c.
+    given (whole (2 ^ 64 - 1) f.tick_volume)
+    (λ n. given (whole (2 ^ 64 - 1) f.volume) (λ v. given (whole 1000000 f.spread) (λ s.
+    Some (record {
+      opening = o;
+      high = h;
+      low = l;
+      closing = c;
+      tick_volume = n;
+      volume = v;
+      spread = s;
+    }))))))))
 
 -- no high below and no low above another price of the bar
 abbrev pub is_range : BarNumbers → Bool
 is_range b =
-    nat_le b.opening b.high && nat_le b.closing b.high && nat_le b.low b.opening && nat_le b.low b.closing && nat_le b.low b.high
+    nat_le b.opening b.high && nat_le b.closing b.high && nat_le b.low b.opening && nat_le b.low b.closing
+    && nat_le b.low b.high
 
 -- a time after that of the bar before
 abbrev pub is_later : Option Bar → ℤ → Bool
@@ -92,8 +108,8 @@ bar_of t b = record {
   volume = b.volume;
 }
 
--- the bar of row n, or the first rule that it breaks: 2 number of fields, 3 date or time, 4 number, 5 time not rising,
--- 6 a high below or a low above another price, 8 over 4,000,000 rows
+-- the bar of row n, or the first rule that it breaks: 2 number of fields, 3 date or time, 4 number, 5 time
+-- not rising, 6 a high below or a low above another price, 8 over 4,000,000 rows
 unfoldable pub judged_bar : ℕ → Option Bar → List (List ℕ) → Result Bar ℕ
 judged_bar n before fields =
     let f = bar_text fields in
@@ -125,13 +141,15 @@ tick_text fields = record {
 abbrev pub are_tick_names : TickText → Bool
 are_tick_names f =
     bytes_eq f.date (codes "<DATE>") && bytes_eq f.time (codes "<TIME>") && bytes_eq f.bid (codes "<BID>")
-    && bytes_eq f.ask (codes "<ASK>") && bytes_eq f.last (codes "<LAST>") && bytes_eq f.volume (codes "<VOLUME>")
+    && bytes_eq f.ask (codes "<ASK>") && bytes_eq f.last (codes "<LAST>")
+    && bytes_eq f.volume (codes "<VOLUME>")
 
 -- how many fields the header of ticks has, if it is one: the flags may be absent
 abbrev pub tick_width : List (List ℕ) → Option ℕ
 tick_width fields =
     if are_tick_names (tick_text fields)
-    then (if length fields == 6 then Some 6 else provided ((length fields == 7) && bytes_eq (field fields 6) (codes "<FLAGS>")) 7)
+    then (if length fields == 6 then Some 6
+    else provided ((length fields == 7) && bytes_eq (field fields 6) (codes "<FLAGS>")) 7)
     else None
 
 -- a number that may be empty, which means that it is unchanged
@@ -172,8 +190,8 @@ tick_of before t bid ask m = record {
   flags = m.flags;
 }
 
--- the tick of row n, or the first rule that it breaks: 2 number of fields, which is that of the header, 3 date or time,
--- 4 number, 5 time falling, 7 a first tick without Bid or Ask, 8 over 4,000,000 rows
+-- the tick of row n, or the first rule that it breaks: 2 number of fields, which is that of the header, 3
+-- date or time, 4 number, 5 time falling, 7 a first tick without Bid or Ask, 8 over 4,000,000 rows
 unfoldable pub judged_tick : ℕ → ℕ → Option Tick → List (List ℕ) → Result Tick ℕ
 judged_tick width n before fields =
     let f = tick_text fields in

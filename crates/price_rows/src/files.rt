@@ -91,7 +91,8 @@ fn records_of<'a>(alloc: Global, text: &'a [u8]) -> Result<Records<'a>, OutOfMem
 
 /// The bars of a text after a byte order mark.
 fn bars_of_text(alloc: Global, text: &[u8]) -> Result<BarList, RowFault>
-    ensures exact { Answers (bars_under_header (records (separator (strip_bom text.now)) (strip_bom text.now))) result }
+    ensures exact { Answers (bars_under_header
+        (records (separator (strip_bom text.now)) (strip_bom text.now))) result }
     ensures bars { IfOk result AreBars }
 {
     let mut records = records_of(alloc, text)?;
@@ -108,7 +109,8 @@ fn bars_of_text(alloc: Global, text: &[u8]) -> Result<BarList, RowFault>
 
 /// The ticks of a text after a byte order mark.
 fn ticks_of_text(alloc: Global, text: &[u8]) -> Result<TickList, RowFault>
-    ensures exact { Answers (ticks_under_header (records (separator (strip_bom text.now)) (strip_bom text.now))) result }
+    ensures exact { Answers (ticks_under_header
+        (records (separator (strip_bom text.now)) (strip_bom text.now))) result }
     ensures ticks { IfOk result AreTicks }
 {
     let mut records = records_of(alloc, text)?;
@@ -124,19 +126,20 @@ fn ticks_of_text(alloc: Global, text: &[u8]) -> Result<TickList, RowFault>
 
 /// Reads a bars file as MetaTrader 5 exports it (MetaTrader 5 Help, Bars: export of history).
 ///
-/// The text is UTF-8, with or without a byte order mark, or UTF-16 little-endian after one. Lines end in LF, CR or CRLF;
-/// an empty line is no row, and a quotation mark has no meaning of its own. Fields stand between tabs where the header
-/// has one, else between commas. The header, which is row 1, is
-/// `<DATE> <TIME> <OPEN> <HIGH> <LOW> <CLOSE> <TICKVOL> <VOL> <SPREAD>`. A row has a date such as 2020.01.02, a time such
-/// as 10:00:00 at second 0, four prices with up to 8 decimals, above 0 and at most 10,000,000, two volumes that fit 64
-/// bits, and a spread of at most 1,000,000 points.
+/// The text is UTF-8, with or without a byte order mark, or UTF-16 little-endian after one. Lines end in LF,
+/// CR or CRLF; an empty line is no row, and a quotation mark has no meaning of its own. Fields stand between
+/// tabs where the header has one, else between commas. The header, which is row 1, is `<DATE> <TIME> <OPEN>
+/// <HIGH> <LOW> <CLOSE> <TICKVOL> <VOL> <SPREAD>`. A row has a date such as 2020.01.02, a time such as
+/// 10:00:00 at second 0, four prices with up to 8 decimals, above 0 and at most 10,000,000, two volumes that
+/// fit 64 bits, and a spread of at most 1,000,000 points.
 ///
 /// # Errors
 ///
-/// `Rule` with the first row that breaks a rule and the first rule that it breaks: 1 another header, 2 number of fields,
-/// 3 date or time (years 1970 to 2999), 4 number, 5 time not after that of the bar before, 6 a high below or a low above
-/// another price of the bar, 8 over 4,000,000 rows, and 9, told with row 0, an odd number of bytes of UTF-16. A character
-/// past ASCII breaks rule 9 too, but always a lower one before it. And `OutOfMemory`.
+/// `Rule` with the first row that breaks a rule and the first rule that it breaks: 1 another header, 2 number
+/// of fields, 3 date or time (years 1970 to 2999), 4 number, 5 time not after that of the bar before, 6 a
+/// high below or a low above another price of the bar, 8 over 4,000,000 rows, and 9, told with row 0, an odd
+/// number of bytes of UTF-16. A character past ASCII breaks rule 9 too, but always a lower one before it. And
+/// `OutOfMemory`.
 pub fn read_bars(alloc: Global, bytes: &[u8]) -> Result<BarList, RowFault>
     ensures exact { Answers (bars_of_file bytes.now) result }
     ensures bars { IfOk result AreBars }
@@ -152,15 +155,15 @@ pub fn read_bars(alloc: Global, bytes: &[u8]) -> Result<BarList, RowFault>
 
 /// Reads a ticks file as MetaTrader 5 exports it (MetaTrader 5 Help, Ticks: export).
 ///
-/// Encodings, lines and separators are those of `read_bars`. The header is
-/// `<DATE> <TIME> <BID> <ASK> <LAST> <VOLUME> <FLAGS>`, whose last name may be absent; each row has as many fields. A time
-/// may have three decimals, as 10:00:00.100. An empty price or volume is that of the tick before, where `<LAST>` and
+/// Encodings, lines and separators are those of `read_bars`. The header is `<DATE> <TIME> <BID> <ASK> <LAST>
+/// <VOLUME> <FLAGS>`, whose last name may be absent; each row has as many fields. A time may have three
+/// decimals, as 10:00:00.100. An empty price or volume is that of the tick before, where `<LAST>` and
 /// `<VOLUME>` are at first 0; empty flags are 0. Bid and Ask lie above 0, and no price is above 10,000,000.
 ///
 /// # Errors
 ///
-/// `Rule` as `read_bars` has it, where rule 5 is a time before that of the tick before, rule 7 is a first tick without Bid
-/// or Ask, and rule 6 is never broken. And `OutOfMemory`.
+/// `Rule` as `read_bars` has it, where rule 5 is a time before that of the tick before, rule 7 is a first
+/// tick without Bid or Ask, and rule 6 is never broken. And `OutOfMemory`.
 pub fn read_ticks(alloc: Global, bytes: &[u8]) -> Result<TickList, RowFault>
     ensures exact { Answers (ticks_of_file bytes.now) result }
     ensures ticks { IfOk result AreTicks }

@@ -70,14 +70,15 @@ fn time_of(time: &[u8]) -> Option<u64>
     clock_of(hours, minutes, seconds)
 }
 
-/// The milliseconds since 1970-01-01 00:00 of a day of the calendar, of the years 1970 to 2999, and the milliseconds
-/// since its midnight; `None` exactly where the calendar has no such day.
+/// The milliseconds since 1970-01-01 00:00 of a day of the calendar, of the years 1970 to 2999, and the
+/// milliseconds since its midnight; `None` exactly where the calendar has no such day.
 fn instant_of(year: u64, month: u64, day: u64, clock_ms: u64) -> Option<i64>
     requires year { year ≤ 2999 }
     requires month { month ≤ 12 }
     requires day { day ≤ 31 }
     requires clock { clock_ms < 86400000 }
-    ensures value { result ≡ provided (is_day year month day) (instant (days_from_civil (pos year) month day) clock_ms) }
+    ensures value { result ≡ provided (is_day year month day)
+        (instant (days_from_civil (pos year) month day) clock_ms) }
     ensures range { IfSome result IsMoment }
 {
     if year < 1970 {
@@ -109,7 +110,8 @@ fn instant_on(date: Date, clock_ms: u64) -> i64
     at.as_millisecond()
 }
 
-/// The milliseconds since 1970-01-01 00:00 of a date such as 2020.01.02 and the milliseconds since its midnight.
+/// The milliseconds since 1970-01-01 00:00 of a date such as 2020.01.02 and the milliseconds since its
+/// midnight.
 fn at(date: &[u8], clock_ms: u64) -> Option<i64>
     requires clock { clock_ms < 86400000 }
     ensures value { result ≡ given (date_of date.now) (λ d. Some (instant d clock_ms)) }

@@ -61,7 +61,8 @@ impl<'a> Parts<'a> {
 
     /// The next part; `None` exactly where none is left.
     pub(crate) fn next(&mut self) -> Option<&'a [u8]>
-        ensures { MatchOption result ((self.old ≡ []) × (self.new ≡ [])) (λ part. self.old ≡ part.now ∷ self.new) }
+        ensures { MatchOption result ((self.old ≡ [])
+            × (self.new ≡ [])) (λ part. self.old ≡ part.now ∷ self.new) }
     {
         let text = self.rest?;
         match cut(text, self.separator) {

@@ -10,7 +10,8 @@ use std::fmt;
 /// Why the rows of a price file could not be read.
 #[derive(Clone, Copy, Debug, PartialEq, Eq)]
 pub enum RowFault {
-    /// The first row that breaks a rule, with that rule. Row 0 and rule 9 stand for an odd number of bytes of UTF-16.
+    /// The first row that breaks a rule, with that rule. Row 0 and rule 9 stand for an odd number of bytes of
+    /// UTF-16.
     Rule { row: u32, rule: u8 },
     /// There was no memory for the rows.
     OutOfMemory,

@@ -26,7 +26,8 @@ const SAME_BARS: [&[u8]; 5] = [
 /// The header of bars.
 const HEADER: &[u8] = b"<DATE>,<TIME>,<OPEN>,<HIGH>,<LOW>,<CLOSE>,<TICKVOL>,<VOL>,<SPREAD>\n";
 
-/// Rows of bars after the header, each with the first row that breaks a rule and the first rule that it breaks.
+/// Rows of bars after the header, each with the first row that breaks a rule and the first rule that it
+/// breaks.
 const BAD_BARS: [(&[u8], u32, u8); 23] = [
     (b"2020.01.02,10:00:00,1.1,1.1005,1.0995,1.1,4,0\n", 2, 2),
     (b"2020.01.02,10:00:00,1.1,1.1005,1.0995,1.1,4,0,10,\n", 2, 2),

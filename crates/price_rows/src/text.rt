@@ -32,7 +32,8 @@ pub(crate) fn units(alloc: Global, bytes: &[u8]) -> Result<Option<Vec<u8>>, OutO
 /// The bytes of UTF-16 after its mark FF FE; `None` where the bytes do not begin with it.
 #[tactic(auto, using(crate::proofs::Texts::mark_short, crate::proofs::Texts::mark_first, crate::proofs::Texts::mark_second, crate::proofs::Texts::mark_is))]
 pub(crate) fn utf16(bytes: &[u8]) -> Option<&[u8]>
-    ensures { MatchOption result (text_of bytes.now ≡ Some (strip_bom bytes.now)) (λ rest. text_of bytes.now ≡ units rest.now) }
+    ensures { MatchOption result (text_of bytes.now ≡ Some (strip_bom bytes.now))
+        (λ rest. text_of bytes.now ≡ units rest.now) }
 {
     match bytes {
         [first, second, rest @ ..] => {

@@ -138,7 +138,8 @@ fn ask_now(before: Option<&Tick>, units: Option<u64>) -> Option<Fix8>
 fn last_now(before: Option<&Tick>, units: Option<u64>) -> Fix8
     requires units { IsAnyLast units }
     requires before { IfSome (option_copied before) IsTick }
-    ensures value { result ≡ unwrap_or (now units (option_map (λ b. b.last) (option_copied before.entry))) (pos 0) }
+    ensures value { result ≡ unwrap_or (now units (option_map (λ b. b.last) (option_copied before.entry)))
+        (pos 0) }
     ensures range { IsLastPrice result }
 {
     match units {
@@ -154,7 +155,8 @@ fn last_now(before: Option<&Tick>, units: Option<u64>) -> Fix8
 fn volume_now(before: Option<&Tick>, units: Option<u64>) -> Fix8
     requires units { IsAnyVolume units }
     requires before { IfSome (option_copied before) IsTick }
-    ensures value { result ≡ unwrap_or (now units (option_map (λ b. b.volume) (option_copied before.entry))) (pos 0) }
+    ensures value { result ≡ unwrap_or (now units (option_map (λ b. b.volume) (option_copied before.entry)))
+        (pos 0) }
     ensures range { pos 0 ≤ℤ result }
 {
     match units {

@@ -1,5 +1,5 @@
--- How a time is written, on the calendar and the clock of `jiff`. Own, in the form of MQL5 Reference, Conversion
--- Functions, TimeToString.
+-- How a time is written, on the calendar and the clock of `jiff`. Own, in the form of MQL5 Reference,
+-- Conversion Functions, TimeToString.
 use Rattle.std.specs.Prelude.{◌≡◌, ℕ, ℤ, pos, ◌+◌, ◌/◌, ◌%◌, ◌*ℤ◌, List, [], ◌∷◌, ◌++◌, unsigned_abs, ◌≤ℤ◌, ◌<ℤ◌}
 use Rattle.jiff_core.specs.declared.civil.date.Date.{Date}
 use Rattle.jiff_core.specs.declared.civil.time.Time.{Time}
@@ -21,7 +21,8 @@ four_digits n = digit 1000 n ∷ three_digits n
 
 -- `yyyy.mm.dd`
 unfoldable pub date_text : Date → List ℕ
-date_text date = four_digits (unsigned_abs date.year) ++ 46 ∷ two_digits date.month ++ 46 ∷ two_digits date.day
+date_text date = four_digits (unsigned_abs date.year) ++ 46 ∷ two_digits date.month
+    ++ 46 ∷ two_digits date.day
 
 -- `hh:mm:ss.mmm`
 unfoldable pub clock_text : Time → List ℕ

@@ -70,9 +70,9 @@ fn push_line(text: &mut Text8, market: &Market, quote: &Quote) -> Result<(), Out
     }
 }
 
-/// The line of a quote of a market, as `2020.01.02 10:00:00.100 EURUSD 1.1 1.1002 0.0 0.0 loud`: its time, symbol, Bid,
-/// Ask, last price and volume, and `silent` where the expert does not see it. It asks for a symbol of the market and a
-/// time of the years 1970 to 2999.
+/// The line of a quote of a market, as `2020.01.02 10:00:00.100 EURUSD 1.1 1.1002 0.0 0.0 loud`: its time,
+/// symbol, Bid, Ask, last price and volume, and `silent` where the expert does not see it. It asks for a
+/// symbol of the market and a time of the years 1970 to 2999.
 pub fn quote_line(alloc: Global, market: &Market, quote: &Quote) -> Result<Text8, OutOfMemory>
     requires symbol { quote.now.symbol < length market.now.listed }
     requires time { IsReportTime quote.now.time_ms }

@@ -77,7 +77,8 @@ fn civil_of(time_ms: i64) -> DateTime
     }
 }
 
-/// Adds a time in milliseconds since 1970, as `2020.01.02 10:00:00.000`. It asks for a time of the years 1970 to 2999.
+/// Adds a time in milliseconds since 1970, as `2020.01.02 10:00:00.000`. It asks for a time of the years 1970
+/// to 2999.
 #[tactic(auto, using(crate::proofs::Written::time_written))]
 pub fn push_time(text: &mut Text8, time_ms: i64) -> Result<(), OutOfMemory>
     requires from_1970 { pos 0 ≤ℤ time_ms }

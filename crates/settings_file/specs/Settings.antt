@@ -94,8 +94,8 @@ unless_unknown None settings = settings
 unfoldable pub settings_of : Expert → Members → Result SettingsFile Broken
 settings_of need document = unless_unknown (least (unknown_names document)) (settings_in need document)
 
--- what the bytes of a settings file are: the settings of their document, or a broken rule, which is rule 1 for
--- bytes that are no TOML
+-- what the bytes of a settings file are: the settings of their document, or a broken rule, which is rule 1
+-- for bytes that are no TOML
 abbrev pub AreSettingsOf : Expert → List ℕ → Result SettingsFile Broken → Type 0
 AreSettingsOf need bytes answer =
     ((document : Members) × IsDocument bytes document × (answer ≡ settings_of need document))

@@ -47,7 +47,8 @@ costs_in prefix members =
     at_key (prefix ++ codes "swap_long")
     (money_key (pos 0) (neg_ℤ (pos 100000000)) 1000000 (get_member (codes "swap_long") members)) (λ swap_long.
     at_key (prefix ++ codes "swap_short")
-    (money_key (pos 0) (neg_ℤ (pos 100000000)) 1000000 (get_member (codes "swap_short") members)) (λ swap_short.
+    (money_key (pos 0) (neg_ℤ (pos 100000000)) 1000000 (get_member (codes "swap_short") members))
+    (λ swap_short.
     at_key (prefix ++ codes "swap_day") (whole_key 3 0 6 (get_member (codes "swap_day") members)) (λ swap_day.
     Ok (record {
       stops_level = stops_level;
@@ -117,8 +118,8 @@ double_from i earlier (symbol ∷ more) =
 abbrev pub is_multiple : ℤ → ℤ → Bool
 is_multiple volume step = unsigned_abs volume % unsigned_abs step == 0
 
--- the key of a symbol whose volumes are at odds: a minimum above the maximum, or one of the two that is no multiple
--- of the step
+-- the key of a symbol whose volumes are at odds: a minimum above the maximum, or one of the two that is no
+-- multiple of the step
 abbrev pub volumes_at_odds : SymbolSpec → Option (List ℕ)
 volumes_at_odds symbol =
     if not (int_le symbol.volume_min symbol.volume_max)

@@ -29,7 +29,8 @@ is_of_symbol k =
     || (bytes_eq k (codes "volume_step") || bytes_eq k (codes "stops_level"))))
     || (bytes_eq k (codes "spread")
     || (bytes_eq k (codes "commission")
-    || (bytes_eq k (codes "swap_long") || (bytes_eq k (codes "swap_short") || bytes_eq k (codes "swap_day"))))))
+    || (bytes_eq k (codes "swap_long") || (bytes_eq k (codes "swap_short")
+    || bytes_eq k (codes "swap_day"))))))
 
 -- the keys of a range
 abbrev pub is_of_range : List ℕ → Bool

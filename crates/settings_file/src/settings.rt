@@ -232,10 +232,10 @@ fn settings_of(alloc: Global, need: Expert, document: &Table) -> Result<Settings
 
 /// Reads a settings file (TOML): its settings, or the first rule that is broken with the key that breaks it.
 ///
-/// Rule 1: the bytes are not TOML. 2: a key is unknown; the first of these by the bytes of its full name is told.
-/// 3: a key is missing, 4: of another kind, 5: out of range or form, 6: an unknown word; the first such key in the
-/// order of the table of keys. 7: the number of symbols is not 1. 8: two symbols have one name. 9: a volume minimum
-/// is above the maximum, or one of the two is no multiple of the step.
+/// Rule 1: the bytes are not TOML. 2: a key is unknown; the first of these by the bytes of its full name is
+/// told. 3: a key is missing, 4: of another kind, 5: out of range or form, 6: an unknown word; the first such
+/// key in the order of the table of keys. 7: the number of symbols is not 1. 8: two symbols have one name. 9:
+/// a volume minimum is above the maximum, or one of the two is no multiple of the step.
 pub fn read_settings(
     alloc: Global,
     need: Expert,

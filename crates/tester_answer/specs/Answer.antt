@@ -13,8 +13,9 @@ Ending = Contents → Status → List ℕ → Contents → Type 0
 abbrev pub refusal : Status → Ending
 refusal status held s text after = (s ≡ status) × (text ≡ []) × (after ≡ held)
 
--- what a command does: it asks for a file by its name, with the most bytes that it takes, and goes on with what the
--- file holds; or it goes on with that of which a definition is true; or it makes a file hold these bytes; or it ends
+-- what a command does: it asks for a file by its name, with the most bytes that it takes, and goes on with
+-- what the file holds; or it goes on with that of which a definition is true; or it makes a file hold these
+-- bytes; or it ends
 pub data Plan : Type 1 where
   Reads : (name : List ℕ) (limit : ℕ) (next : List ℕ → Plan) → Plan
   Finds : (A : Type 0) (is : A → Type 0) (next : A → Plan) → Plan
@@ -29,7 +30,8 @@ refuses status = Ends (refusal status)
 abbrev pub AfterReading : List ℕ → ℕ → (List ℕ → Ending) → Option (List ℕ) → Ending
 AfterReading name limit next None held s text after = refusal (Absent name) held s text after
 AfterReading name limit next (Some bytes) held s text after =
-    MatchBool (nat_lt limit (length bytes)) (refusal (TooLarge name) held s text after) (next bytes held s text after)
+    MatchBool (nat_lt limit (length bytes)) (refusal (TooLarge name) held s text after)
+    (next bytes held s text after)
 
 -- the ends that a plan has over these contents
 abbrev pub Gives : Plan → Ending
@@ -62,7 +64,8 @@ Reaches (Ends ending) wanted held = ⊥
 abbrev pub CutAt : Plan → Contents → Option Contents → Type 0
 CutAt (Reads name limit next) held now = ReachesAfter limit (λ bytes. CutAt (next bytes) held now) (held name)
 CutAt (Finds A is next) held now = (a : A) × is a × CutAt (next a) held now
-CutAt (Writes name bytes next) held now = CutShort held name bytes now ⊎ CutAt next (holding held name bytes) now
+CutAt (Writes name bytes next) held now =
+    CutShort held name bytes now ⊎ CutAt next (holding held name bytes) now
 CutAt (Ends ending) held now = ⊥
 
 -- the plan comes to the writing of a file

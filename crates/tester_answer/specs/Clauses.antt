@@ -28,7 +28,8 @@ Gained bytes before now = WhereTold before.told (λ held. now.told ≡ Some (hel
 abbrev pub ReadingRefused : List ℕ → ℕ → FilesSeen → FilesSeen → Status → Type 0
 ReadingRefused name limit before now (Absent which) =
     (which ≡ name) × Rose before.absents now.absents × WhereTold before.told (λ held. held name ≡ None)
-ReadingRefused name limit before now (ReadFault which) = (which ≡ name) × Rose before.read_faults now.read_faults
+ReadingRefused name limit before now (ReadFault which) =
+    (which ≡ name) × Rose before.read_faults now.read_faults
 ReadingRefused name limit before now (TooLarge which) =
     (which ≡ name) × Rose before.oversizes now.oversizes
     × WhereTold before.told (λ held. IsSomeAnd (held name) (λ bytes. limit < length bytes))
@@ -39,8 +40,8 @@ ReadingRefused name limit before now _ = ⊥
 abbrev pub Refuses : Plan → Option Contents → Status → Type 0
 Refuses plan told status = WhereTold told (λ held. Gives plan held status [] held)
 
--- why a command ends with a status other than Done before it writes: the plan has that refusal, or a fault of the
--- files was counted where the plan reaches the reading of that name. Only the words decide on Usage
+-- why a command ends with a status other than Done before it writes: the plan has that refusal, or a fault of
+-- the files was counted where the plan reaches the reading of that name. Only the words decide on Usage
 abbrev pub Refused : (ℕ → Type 0) → Plan → FilesSeen → FilesSeen → Status → Type 0
 Refused usage plan before now (Usage rule) = usage rule
 Refused usage plan before now (Source fault) = Refuses plan before.told (Source fault)
@@ -91,9 +92,10 @@ AtUnread (ReadFault name) P = P
 AtUnread (TooLarge name) P = P
 AtUnread _ P = Unit {0}
 
--- The sink gained a beginning of a text that the plan has with Done, and the files are as the plan has them with
--- it.
-pub record WrotePart (plan : Plan) (held : Contents) (files : FilesSeen) (before now : SinkSeen) : Type 0 where
+-- The sink gained a beginning of a text that the plan has with Done, and the files are as the plan has them
+-- with it.
+pub record WrotePart (plan : Plan) (held : Contents) (files : FilesSeen)
+    (before now : SinkSeen) : Type 0 where
   pub text : List ℕ
   pub after : Contents
   pub gives : Gives plan held Done text after
@@ -102,7 +104,8 @@ pub record WrotePart (plan : Plan) (held : Contents) (files : FilesSeen) (before
   pub grew : Gained (take part text) before now
 
 -- the same of a whole text
-pub record WroteWhole (plan : Plan) (held : Contents) (files : FilesSeen) (before now : SinkSeen) : Type 0 where
+pub record WroteWhole (plan : Plan) (held : Contents) (files : FilesSeen)
+    (before now : SinkSeen) : Type 0 where
   pub text : List ℕ
   pub after : Contents
   pub gives : Gives plan held Done text after
@@ -120,11 +123,13 @@ FileCut plan before now sink_before sink_now =
 
 -- a beginning of a text was written
 abbrev pub Began : Plan → FilesSeen → FilesSeen → SinkSeen → SinkSeen → Type 0
-Began plan before now sink_before sink_now = WhereTold before.told (λ held. WrotePart plan held now sink_before sink_now)
+Began plan before now sink_before sink_now =
+    WhereTold before.told (λ held. WrotePart plan held now sink_before sink_now)
 
 -- all was written
 abbrev pub Wrote : Plan → FilesSeen → FilesSeen → SinkSeen → SinkSeen → Type 0
-Wrote plan before now sink_before sink_now = WhereTold before.told (λ held. WroteWhole plan held now sink_before sink_now)
+Wrote plan before now sink_before sink_now =
+    WhereTold before.told (λ held. WroteWhole plan held now sink_before sink_now)
 
 -- the plan has Done with this text over the contents that are told, and changes no file
 abbrev pub Has : Plan → FilesSeen → List ℕ → Type 0
@@ -138,8 +143,8 @@ RefusedBy plan before now status = Refused (UsageRefused plan) plan before now s
 abbrev pub IsRefused : Plan → FilesSeen → FilesSeen → Status → Type 0
 IsRefused plan before now status = OnlyRead before now × RefusedBy plan before now status
 
--- Writing failed: the sink's count rose, and a beginning of a text was written; or that of the files rose, and the
--- writing of a file was cut short.
+-- Writing failed: the sink's count rose, and a beginning of a text was written; or that of the files rose,
+-- and the writing of a file was cut short.
 abbrev pub Unwritten : Plan → FilesSeen → FilesSeen → SinkSeen → SinkSeen → Type 0
 Unwritten plan before now sink_before sink_now =
     (Rose sink_before.write_faults sink_now.write_faults × Began plan before now sink_before sink_now)
@@ -163,12 +168,14 @@ abbrev pub HasDone : Plan → Contents → Type 0
 HasDone plan held = (text : List ℕ) × (after : Contents) × Gives plan held Done text after
 
 -- no fault of reading or of writing was counted; writings of files count where the plan writes one
-pub record NoFault (plan : Plan) (held : Contents) (before now : FilesSeen) (sink_before sink_now : SinkSeen) : Type 0 where
+pub record NoFault (plan : Plan) (held : Contents) (before now : FilesSeen)
+    (sink_before sink_now : SinkSeen) : Type 0 where
   pub read : ¬ Rose before.read_faults now.read_faults
   pub wrote : ¬ Rose sink_before.write_faults sink_now.write_faults
   pub filed : WritesFile plan held → ¬ Rose before.write_faults now.write_faults
 
--- Where the plan has Done over the contents that are told, and no fault was counted, all was done but for memory.
+-- Where the plan has Done over the contents that are told, and no fault was counted, all was done but for
+-- memory.
 abbrev pub Completes : Plan → FilesSeen → FilesSeen → SinkSeen → SinkSeen → Status → Type 0
 Completes plan before now sink_before sink_now status =
     WhereTold before.told (λ held. HasDone plan held → NoFault plan held before now sink_before sink_now

@@ -46,7 +46,8 @@ fields_line (field ∷ fields) = 32 ∷ field ++ fields_line fields
 
 -- `error`, the status's number and its fields
 abbrev pub error_line : Status → List ℕ
-error_line status = codes "error" ++ fields_line (decimal (status_number status) ∷ status_fields status) ++ 10 ∷ []
+error_line status = codes "error" ++ fields_line (decimal (status_number status) ∷ status_fields status)
+    ++ 10 ∷ []
 
 -- what standard error gets for a status: nothing where all was done, else the line that names it
 abbrev pub fault_line : Status → List ℕ

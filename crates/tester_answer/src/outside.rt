@@ -45,7 +45,8 @@ pub fn read<F: Files>(
 pub fn write_whole<S: Sink>(out: &mut S, text: &[u8]) -> Result<(), WriteError>
     ensures ok { OnOk result (Gained text.now (S.seen out.old) (S.seen out.new)) }
     ensures err { OnErr result ((k : ℕ) × Gained (take k text.now) (S.seen out.old) (S.seen out.new)) }
-    ensures failed { IsErrOf result WriteError.Failed → Rose (S.seen out.old).write_faults (S.seen out.new).write_faults }
+    ensures failed { IsErrOf result WriteError.Failed
+        → Rose (S.seen out.old).write_faults (S.seen out.new).write_faults }
 {
     let mut place = 0;
     while place < text.len() {

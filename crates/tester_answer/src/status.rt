@@ -99,8 +99,8 @@ fn push_status_fields(line: &mut Text8, status: &Status) -> Result<(), OutOfMemo
     }
 }
 
-/// The line that standard error gets for a status: `error N` and the status's fields, each after a blank, and a
-/// line feed; the empty text for `Done`.
+/// The line that standard error gets for a status: `error N` and the status's fields, each after a blank, and
+/// a line feed; the empty text for `Done`.
 pub fn fault_text(alloc: Global, status: &Status) -> Result<Text8, OutOfMemory>
     ensures { IfOk result (λ text. text ≡ fault_line status.now) }
 {

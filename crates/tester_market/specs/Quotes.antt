@@ -9,7 +9,8 @@ use Rattle.tester_market.specs.Reading.{settings_plan, market_plan}
 
 -- a line is written for each quote of a market; no file changes
 abbrev pub writes_quotes : Listing → Ending
-writes_quotes market held status text after = (status ≡ Done) × AreQuoteLines market (quotes market) text × (after ≡ held)
+writes_quotes market held status text after =
+    (status ≡ Done) × AreQuoteLines market (quotes market) text × (after ≡ held)
 
 -- the settings are read and judged, which need no expert, and then the price file of each symbol
 abbrev pub quotes_plan : List ℕ → Plan

@@ -41,7 +41,8 @@ with_settings (Err broken) next = refuses (status.Settings broken.0 broken.1)
 abbrev pub settings_plan : Expert → List ℕ → (SettingsFile → Plan) → Plan
 settings_plan need name next =
     Reads name settings_limit
-    (λ bytes. Finds (Result SettingsFile Broken) (AreSettingsOf need bytes) (λ answer. with_settings answer next))
+    (λ bytes. Finds (Result SettingsFile Broken) (AreSettingsOf need bytes)
+    (λ answer. with_settings answer next))
 
 abbrev pub as_rows : {R : Type 0} → (List R → Rows) → Result (List R) (ℕ × ℕ) → Result Rows (ℕ × ℕ)
 as_rows kind (Ok found) = Ok (kind found)
@@ -76,7 +77,8 @@ market_plan settings next =
     (λ listed. next (record { mode = settings.mode; period = settings.period; listed = listed }))
 
 -- a settings file was read and judged
-pub record HasSettings (need : Expert) (name : List ℕ) (told : Option Contents) (file : SettingsFile) : Type 0 where
+pub record HasSettings (need : Expert) (name : List ℕ) (told : Option Contents)
+    (file : SettingsFile) : Type 0 where
   pub bytes : List ℕ
   pub reading : IsReading name settings_limit told bytes
   pub are : AreSettingsOf need bytes (Ok file)
@@ -95,7 +97,8 @@ SettingsStatus need bytes other = ⊥
 
 -- the status that refuses a price file
 abbrev pub RowsStatus : Mode → List ℕ → List ℕ → Status → Type 0
-RowsStatus mode name bytes (status.Prices file row rule) = (file ≡ name) × (rows_of mode bytes ≡ Err (row, rule))
+RowsStatus mode name bytes (status.Prices file row rule) =
+    (file ≡ name) × (rows_of mode bytes ≡ Err (row, rule))
 RowsStatus mode name bytes status.OutOfMemory = Unit {0}
 RowsStatus mode name bytes other = ⊥
 
@@ -110,4 +113,9 @@ pub record HasMarket (settings : Settings) (told : Option Contents) (market : Li
   pub only : settings.symbols ≡ spec ∷ []
   pub found : Rows
   pub has_rows : HasRows settings.mode spec.file told found
-  pub is : market ≡ record { mode = settings.mode; period = settings.period; listed = record { spec = spec; rows = found } ∷ [] }
+  pub is : market ≡ record {
+    mode = settings.mode;
+    period = settings.period;
+    listed =
+        record { spec = spec; rows = found } ∷ [];
+  }

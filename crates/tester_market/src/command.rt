@@ -16,7 +16,8 @@ use tester_io::Files;
 pub fn quotes<F: Files>(alloc: Global, settings: &str, files: &mut F) -> Result<Text8, Status>
     ensures only_read { OnlyRead (F.seen files.old) (F.seen files.new) }
     ensures ready { IfOk result (Has (quotes_plan settings.now) (F.seen files.old)) }
-    ensures refused { IfErr result (Refused Never (quotes_plan settings.now) (F.seen files.old) (F.seen files.new)) }
+    ensures refused { IfErr result (Refused Never (quotes_plan settings.now) (F.seen files.old)
+        (F.seen files.new)) }
 {
     let name = Text8::from_slice(alloc, settings.as_bytes())?;
     let file = read_test_settings(alloc, Expert::NotNeeded, &name, files)?;

@@ -46,7 +46,8 @@ pub fn read_market<F: Files>(
     requires one { length settings.now.symbols ≡ 1 }
     ensures only_read { OnlyRead (F.seen files.old) (F.seen files.new) }
     ensures read { IfOk result (HasMarket settings.now (F.seen files.old).told) }
-    ensures refused { IfErr result (Refused Never (market_plan settings.now (λ market. never)) (F.seen files.old) (F.seen files.new)) }
+    ensures refused { IfErr result (Refused Never (market_plan settings.now (λ market. never))
+        (F.seen files.old) (F.seen files.new)) }
 {
     match settings.symbols.as_slice() {
         [spec] => {

@@ -46,7 +46,8 @@ pub fn read_test_settings<F: Files>(
     ensures read { IfOk result (HasSettings need name.now (F.seen files.old).told) }
     ensures range { IfOk result (λ file. AreSettings file.settings) }
     ensures one { IfOk result (λ file. length file.settings.symbols ≡ 1) }
-    ensures refused { IfErr result (Refused Never (settings_plan need name.now (λ file. never)) (F.seen files.old) (F.seen files.new)) }
+    ensures refused { IfErr result (Refused Never (settings_plan need name.now (λ file. never))
+        (F.seen files.old) (F.seen files.new)) }
 {
     let bytes = read(alloc, files, name, SETTINGS_LIMIT)?;
     judge_settings(alloc, need, bytes.as_slice())
@@ -94,7 +95,8 @@ pub fn read_rows<F: Files>(
     ensures only_read { OnlyRead (F.seen files.old) (F.seen files.new) }
     ensures read { IfOk result (HasRows mode name.now (F.seen files.old).told) }
     ensures range { IfOk result (AreRows mode) }
-    ensures refused { IfErr result (Refused Never (rows_plan mode name.now (λ found. never)) (F.seen files.old) (F.seen files.new)) }
+    ensures refused { IfErr result (Refused Never (rows_plan mode name.now (λ found. never))
+        (F.seen files.old) (F.seen files.new)) }
 {
     let bytes = read(alloc, files, name, PRICE_LIMIT)?;
     let told = Text8::from_slice(alloc, name.as_slice())?;

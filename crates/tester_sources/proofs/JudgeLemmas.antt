@@ -14,9 +14,10 @@ use Rattle.tester_answer.specs.Clauses.{Refused, Never}
 use Rattle.tester_answer.proofs.PlanLemmas.{Leads, leads_same, leads_finding}
 use Rattle.tester_answer.specs.Answer.{OneEnd}
 use Rattle.tester_answer.proofs.OneEnd.{refuses_one, finds_one}
-use Rattle.tester_sources.specs.Reading.{Tokens, never, program_plan, most_files, OneAnswer}
+use Rattle.tester_sources.specs.Reading.{Tokens, never, program_plan, OneAnswer}
 use Rattle.tester_sources.specs.Judging.{with_tree, tree_plan, with_program, TreeRefused, FormRefused, OneTree}
 use Rattle.tester_sources.proofs.SourceLemmas.{sources_lead, sources_one}
+use Rattle.mql_source.specs.Limits.{most_files}
 
 -- what follows the tokens may be anything
 pub program_lead : (entry : List ℕ) (next : List Source → Tokens → Plan) (told : Option Contents) → Leads (program_plan entry next) (program_plan entry (λ sources tokens. never)) told

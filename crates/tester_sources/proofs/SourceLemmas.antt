@@ -22,7 +22,8 @@ use Rattle.tester_answer.proofs.PlanLemmas.{Leads, leads_same, leads_on, leads_r
 use Rattle.tester_answer.specs.Answer.{OneEnd}
 use Rattle.tester_answer.proofs.OneEnd.{refuses_one, reads_one, finds_one}
 use Rattle.tester_sources.specs.Faults.{text_fault, source_fault, TellsFault, TellsText, TellsPreFault, TellsRefusal}
-use Rattle.tester_sources.specs.Reading.{source_limit, most_files, Tokens, source, never, with_text, with_tokens, sources_plan, program_plan, ReadInTurn, none, needed, NeedMet, MayGoOn, Refusing, FilesRefused, TextRefused, file_plan, OneAnswer}
+use Rattle.tester_sources.specs.Reading.{source_limit, Tokens, source, never, with_text, with_tokens, sources_plan, program_plan, ReadInTurn, none, needed, NeedMet, MayGoOn, Refusing, FilesRefused, TextRefused, file_plan, OneAnswer}
+use Rattle.mql_source.specs.Limits.{most_files}
 
 -- with a text that is there
 pub text_leads : (name : List ℕ) (r : Result (List ℕ) TextFault) (text : List ℕ) (next : List ℕ → Plan) (told : Option Contents) → r ≡ Ok text → Leads (with_text name r next) (next text) told

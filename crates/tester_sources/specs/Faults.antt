@@ -34,7 +34,13 @@ file_name sources file = name_of (slice_get sources file)
 
 -- a rule of a stage that is broken at that place
 abbrev pub at_span : List Source → ℕ → ℕ → Span → SourceFault
-at_span sources stage rule span = record { stage = stage; rule = rule; file = file_name sources span.file; line = span.line }
+at_span sources stage rule span = record {
+  stage = stage;
+  rule = rule;
+  file =
+      file_name sources span.file;
+  line = span.line;
+}
 
 -- the rules of stage 2, the tokens
 abbrev pub token_fault : List Source → LexFault → SourceFault

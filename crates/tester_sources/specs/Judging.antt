@@ -54,32 +54,38 @@ tree_fault entry sources tokens (parsing.Depth place) = placed entry sources 4 2
 tree_fault entry sources tokens (parsing.Nodes place) = placed entry sources 4 3 (span_near tokens place)
 tree_fault entry sources tokens parsing.OutOfMemory = placed entry sources 4 0 None
 
--- stage 7, rule 1: a tree that is not of the form that is built so far, at the first token of its first such node
+-- stage 7, rule 1: a tree that is not of the form that is built so far, at the first token of its first such
+-- node
 abbrev pub form_fault : List ℕ → List Source → Tokens → Option ℕ → SourceFault
 form_fault entry sources tokens place = placed entry sources 7 1 (span_among tokens place)
 
 -- goes on with the tree, or refuses the tokens by stage 4
 abbrev pub with_tree : List ℕ → List Source → Tokens → (Tree → Plan) → Result Tree ParseFault → Plan
 with_tree entry sources tokens next (Ok tree) = next tree
-with_tree entry sources tokens next (Err fault) = refuses (status.Source (tree_fault entry sources tokens fault))
+with_tree entry sources tokens next (Err fault) =
+    refuses (status.Source (tree_fault entry sources tokens fault))
 
 abbrev pub tree_plan : List ℕ → (List Source → Tokens → Tree → Plan) → List Source → Tokens → Plan
-tree_plan entry next sources tokens = Finds (Result Tree ParseFault) (Parsing tokens) (with_tree entry sources tokens (next sources tokens))
+tree_plan entry next sources tokens =
+    Finds (Result Tree ParseFault) (Parsing tokens) (with_tree entry sources tokens (next sources tokens))
 
 -- goes on with what a tree of the level means, or refuses it by stage 7
 abbrev pub with_program : List ℕ → List Source → Tokens → (Checked → Plan) → Result Checked (Option ℕ) → Plan
 with_program entry sources tokens next (Ok checked) = next checked
-with_program entry sources tokens next (Err place) = refuses (status.Source (form_fault entry sources tokens place))
+with_program entry sources tokens next (Err place) =
+    refuses (status.Source (form_fault entry sources tokens place))
 
 -- the status that tells a fault of the tokens' tree
 abbrev pub TreeRefused : List ℕ → List Source → Tokens → Status → Type 0
-TreeRefused entry sources tokens (status.Source given) = (fault : ParseFault) × Parsing tokens (Err fault) × (given ≡ tree_fault entry sources tokens fault)
+TreeRefused entry sources tokens (status.Source given) =
+    (fault : ParseFault) × Parsing tokens (Err fault) × (given ≡ tree_fault entry sources tokens fault)
 TreeRefused entry sources tokens status.OutOfMemory = Unit {0}
 TreeRefused entry sources tokens _ = ⊥
 
 -- the status that tells that the tree is not of the form
 abbrev pub FormRefused : List ℕ → List Source → Tokens → Tree → Status → Type 0
-FormRefused entry sources tokens tree (status.Source given) = (place : Option ℕ) × (program tokens tree ≡ Err place) × (given ≡ form_fault entry sources tokens place)
+FormRefused entry sources tokens tree (status.Source given) =
+    (place : Option ℕ) × (program tokens tree ≡ Err place) × (given ≡ form_fault entry sources tokens place)
 FormRefused entry sources tokens tree status.OutOfMemory = Unit {0}
 FormRefused entry sources tokens tree _ = ⊥
 

@@ -5,6 +5,7 @@ ghost use Rattle.mql_parse.specs.Parsed.{Parsing};
 ghost use Rattle.mql_level.specs.Level.{program};
 ghost use Rattle.tester_sources.specs.Faults.{TellsFault};
 ghost use Rattle.tester_sources.specs.Judging.{span_at, last_span, span_near, span_among, placed, TreeRefused, FormRefused};
+ghost use Rattle.mql_source.specs.Limits.{most_tokens};
 
 use crate::fault::span_status;
 use fx8::{OutOfMemory, Text8};
@@ -85,7 +86,7 @@ pub fn judge_tree(
     sources: &Sources,
     tokens: &Tokens,
 ) -> Result<Tree, Status>
-    requires { length tokens.now ≤ 400000 }
+    requires { length tokens.now ≤ most_tokens }
     ensures tree { IfOk result (λ tree. Parsing tokens.now (Ok tree)) }
     ensures refused { IfErr result (TreeRefused entry.now sources.now tokens.now) }
 {

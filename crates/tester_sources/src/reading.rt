@@ -8,6 +8,7 @@ ghost use Rattle.mql_preproc.specs.Onward.{Fits};
 ghost use Rattle.tester_io.specs.Outside.{WhereTold};
 ghost use Rattle.tester_answer.specs.Clauses.{OnlyRead, Refused, Never};
 ghost use Rattle.tester_sources.specs.Reading.{IsSource, IsWanted, FewTokens, FilesRefused, TextRefused, MayGoOn, IsNext, IsTurn, ReadInTurn, file_plan, sources_plan, program_plan, never};
+ghost use Rattle.mql_source.specs.Limits.{most_tokens, most_units};
 
 use crate::fault::{fault_status, refusal, text_status};
 use fx8::{Text, Text8};
@@ -35,7 +36,7 @@ pub enum Wanted {
 /// What preprocessing makes of the files so far, or the status that refuses them.
 pub fn make_wanted(alloc: Global, entry: &Text8, sources: &Sources) -> Result<Wanted, Status>
     requires few { length sources.now ≤ 2 ^ 32 }
-    requires texts { All (λ s. length s.text ≤ 1048576) sources.now }
+    requires texts { All (λ s. length s.text ≤ most_units) sources.now }
     ensures found { IfOk result (IsWanted entry.now sources.now) }
     ensures few { IfOk result FewTokens }
     ensures refused { IfErr result (FilesRefused entry.now sources.now) }
@@ -70,7 +71,7 @@ enum Turned {
 // Begins to read a program, or tells that its entry is needed, or the status that refuses it.
 fn begin_next(alloc: Global, entry: &Text8, sources: &Sources) -> Result<Next, Status>
     requires few { length sources.now ≤ 2 ^ 32 }
-    requires texts { All (λ s. length s.text ≤ 1048576) sources.now }
+    requires texts { All (λ s. length s.text ≤ most_units) sources.now }
     ensures found { IfOk result (IsNext entry.now sources.now) }
     ensures refused { IfErr result (FilesRefused entry.now sources.now) }
 {
@@ -91,7 +92,7 @@ fn run_next(
     reading: Reading,
 ) -> Result<Next, Status>
     requires few { length sources.now ≤ 2 ^ 32 }
-    requires texts { All (λ s. length s.text ≤ 1048576) sources.now }
+    requires texts { All (λ s. length s.text ≤ most_units) sources.now }
     requires stands { Stands entry.now sources.now reading }
     requires fits { Fits sources.now reading }
     ensures found { IfOk result (IsNext entry.now sources.now) }
@@ -115,7 +116,7 @@ fn read_next(
     reading: Option<Reading>,
 ) -> Result<Next, Status>
     requires few { length sources.now ≤ 2 ^ 32 }
-    requires texts { All (λ s. length s.text ≤ 1048576) sources.now }
+    requires texts { All (λ s. length s.text ≤ most_units) sources.now }
     requires reading { MayGoOn entry.now sources.now reading }
     ensures found { IfOk result (IsNext entry.now sources.now) }
     ensures refused { IfErr result (FilesRefused entry.now sources.now) }
@@ -129,7 +130,7 @@ fn read_next(
 // The text of a file's bytes, or the status that refuses it.
 fn judge_text(alloc: Global, name: &Text8, bytes: &[u8]) -> Result<Text, Status>
     ensures text { IfOk result (λ text. text_of bytes.now ≡ Ok text) }
-    ensures few { IfOk result (λ text. length text ≤ 1048576) }
+    ensures few { IfOk result (λ text. length text ≤ most_units) }
     ensures refused { IfErr result (TextRefused name.now bytes.now) }
 {
     match text_of_bytes(alloc, bytes) {
@@ -158,12 +159,14 @@ fn turn<F: Files>(
     reading: Option<Reading>,
 ) -> Result<Turned, Status>
     requires turns { NeededInTurn entry.now sources.old }
-    requires texts { All (λ s. length s.text ≤ 1048576) sources.old }
+    requires texts { All (λ s. length s.text ≤ most_units) sources.old }
     requires reading { MayGoOn entry.now sources.old reading }
     ensures only_read { OnlyRead (F.seen files.old) (F.seen files.new) }
     ensures read { IfOk result (IsTurn entry.now (F.seen files.old).told sources.old sources.new) }
-    ensures still_short { IfOk result (λ found. All (λ s. length s.text ≤ 1048576) sources.new) }
-    ensures refused { IfErr result (Refused Never (sources_plan (513 - length sources.old) entry.now sources.old (λ sources tokens. never)) (F.seen files.old) (F.seen files.new)) }
+    ensures still_short { IfOk result (λ found. All (λ s. length s.text ≤ most_units) sources.new) }
+    ensures refused { IfErr result (Refused Never
+        (sources_plan (513 - length sources.old) entry.now sources.old (λ sources tokens. never))
+        (F.seen files.old) (F.seen files.new)) }
 {
     needed_in_turn();
     goes_on();
@@ -187,11 +190,13 @@ pub fn read_sources<F: Files>(
     files: &mut F,
 ) -> Result<(Sources, Tokens), Status>
     ensures only_read { OnlyRead (F.seen files.old) (F.seen files.new) }
-    ensures read { IfOk result (λ found. WhereTold (F.seen files.old).told (λ held. ReadInTurn entry.now held found.0)) }
+    ensures read { IfOk result (λ found. WhereTold (F.seen files.old).told
+        (λ held. ReadInTurn entry.now held found.0)) }
     ensures tokens { IfOk result (λ found. Preprocesses entry.now found.0 (Ok found.1)) }
     ensures few { IfOk result (λ found. length found.0 ≤ 512) }
-    ensures short { IfOk result (λ found. length found.1 ≤ 400000) }
-    ensures refused { IfErr result (Refused Never (program_plan entry.now (λ sources tokens. never)) (F.seen files.old) (F.seen files.new)) }
+    ensures short { IfOk result (λ found. length found.1 ≤ most_tokens) }
+    ensures refused { IfErr result (Refused Never (program_plan entry.now (λ sources tokens. never))
+        (F.seen files.old) (F.seen files.new)) }
 {
     needed_in_turn();
     let mut sources = Sources::new(alloc);
