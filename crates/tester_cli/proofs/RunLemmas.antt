@@ -14,7 +14,8 @@ use Rattle.tester_answer.proofs.PlanLemmas.{Leads, leads_on, refused_here, refus
 use Rattle.tester_answer.specs.Answer.{OneEnd}
 use Rattle.tester_answer.proofs.OneEnd.{refuses_one, reads_one}
 use Rattle.tester_answer.specs.Answer.{refuses}
-use Rattle.tester_cli.specs.Commands.{with_bars, reports, quick_bars, quick_tree, quick_rest, quick_plan, quick_names, says, check_tree, check_plan, check_names, chosen, plan_of, price_limit}
+use Rattle.tester_cli.specs.Commands.{with_bars, reports, quick_bars, quick_tree, quick_rest, quick_plan, quick_names, says, check_tree, check_plan, check_names, quotes_names, chosen, plan_of, price_limit}
+use Rattle.tester_market.proofs.QuotesPlan.{quotes_one}
 use Rattle.tester_cli.specs.Compiling.{IsProgramOf, ProgramRefused}
 use Rattle.stack_vm.specs.declared.code.Code.{Code}
 use Rattle.mql_tree.specs.declared.token.Tree.{Tree}
@@ -64,14 +65,20 @@ module _ (one : OneAnswer) (alone : OneTree) (talks : MeansTalks) where
   check_names_one (entry ∷ []) = check_one entry
   check_names_one (a ∷ b ∷ more) = refuses_one (Usage 3)
 
+  quotes_names_one : (names : List (List ℕ)) → OneEnd (quotes_names names)
+  quotes_names_one [] = refuses_one (Usage 3)
+  quotes_names_one (settings ∷ []) = quotes_one settings
+  quotes_names_one (a ∷ b ∷ more) = refuses_one (Usage 3)
+
   pub plan_one : (words : List (List ℕ)) → OneEnd (plan_of words)
   plan_one [] = refuses_one (Usage 2)
-  plan_one (command ∷ names) = of_test (bytes_eq command (codes "quick")) (bytes_eq command (codes "check"))
+  plan_one (command ∷ names) = of_test (bytes_eq command (codes "quick")) (bytes_eq command (codes "check")) (bytes_eq command (codes "quotes"))
     where
-      of_test : (b c : Bool) → OneEnd (chosen b (quick_names names) (chosen c (check_names names) (refuses (Usage 2))))
-      of_test true c = quick_names_one names
-      of_test false true = check_names_one names
-      of_test false false = refuses_one (Usage 2)
+      of_test : (b c d : Bool) → OneEnd (chosen b (quick_names names) (chosen c (check_names names) (chosen d (quotes_names names) (refuses (Usage 2)))))
+      of_test true c d = quick_names_one names
+      of_test false true d = check_names_one names
+      of_test false false true = quotes_names_one names
+      of_test false false false = refuses_one (Usage 2)
 
 -- the reading of the bars is refused
 pub bars_refused : (bars : List ℕ) (checked : Checked) (before now : FilesSeen) (status : Status) (name : List ℕ) → name ≡ bars → ReadingRefused name price_limit before now status → Refused Never (quick_bars bars checked) before now status

@@ -17,6 +17,7 @@ use Rattle.mql_level.specs.Level.{program}
 use Rattle.mql_preproc.specs.declared.source.Source.{Source}
 use Rattle.tester_sources.specs.Reading.{Tokens, program_plan}
 use Rattle.tester_sources.specs.Judging.{tree_plan, with_program}
+use Rattle.tester_market.specs.Quotes.{quotes_plan}
 use Rattle.tester_cli.specs.Pass.{Passes}
 use Rattle.tester_cli.specs.Report.{IsReport}
 
@@ -75,6 +76,10 @@ abbrev pub check_names : List (List ℕ) → Plan
 check_names (entry ∷ []) = check_plan entry
 check_names names = refuses (Usage 3)
 
+abbrev pub quotes_names : List (List ℕ) → Plan
+quotes_names (settings ∷ []) = quotes_plan settings
+quotes_names names = refuses (Usage 3)
+
 abbrev pub chosen : Bool → Plan → Plan → Plan
 chosen true a b = a
 chosen false a b = b
@@ -85,7 +90,8 @@ abbrev pub plan_of : List (List ℕ) → Plan
 plan_of [] = refuses (Usage 2)
 plan_of (command ∷ names) =
     chosen (bytes_eq command (codes "quick")) (quick_names names)
-    (chosen (bytes_eq command (codes "check")) (check_names names) (refuses (Usage 2)))
+    (chosen (bytes_eq command (codes "check")) (check_names names)
+    (chosen (bytes_eq command (codes "quotes")) (quotes_names names) (refuses (Usage 2))))
 
 -- the words of a command line as bytes
 abbrev pub words_of : {A : Type 0} → List (String A) → List (List ℕ)

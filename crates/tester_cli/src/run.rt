@@ -1,7 +1,7 @@
 //! The top call.
 ghost use Rattle.std.specs.Prelude.{◌≡◌, IfOk, IfErr};
 ghost use Rattle.tester_answer.specs.Clauses.{OnlyRead, Has, RefusedBy, IsRefused, AtJudgement, AtUnread, Wrote, Unwritten, NoMemory, Completes};
-ghost use Rattle.tester_cli.specs.Commands.{quick_names, check_names, plan_of, words_of};
+ghost use Rattle.tester_cli.specs.Commands.{quick_names, check_names, quotes_names, plan_of, words_of};
 
 use crate::check::check;
 use crate::quick::quick;
@@ -13,6 +13,7 @@ use std::alloc::Global;
 use tester_answer::Status;
 use tester_answer::outside::write_whole;
 use tester_io::{Files, Sink, WriteError};
+use tester_market::quotes;
 
 // What `quick` writes of these names, or why it writes nothing.
 fn run_quick<F: Files>(alloc: Global, names: &[String], files: &mut F) -> Result<Text8, Status>
@@ -44,6 +45,21 @@ fn run_check<F: Files>(alloc: Global, names: &[String], files: &mut F) -> Result
     }
 }
 
+// What `quotes` writes of these names, or why it writes nothing.
+fn run_quotes<F: Files>(alloc: Global, names: &[String], files: &mut F) -> Result<Text8, Status>
+    ensures only_read { OnlyRead (F.seen files.old) (F.seen files.new) }
+    ensures ready { IfOk result (Has (quotes_names (words_of names.now)) (F.seen files.old)) }
+    ensures refused { IfErr result (RefusedBy (quotes_names (words_of names.now)) (F.seen files.old) (F.seen files.new)) }
+{
+    if names.len() != 1 {
+        return Err(Status::Usage(3));
+    }
+    match names {
+        [settings] => quotes(alloc, settings.as_str(), files),
+        _ => unreachable!(),
+    }
+}
+
 // What a command writes, or why it writes nothing.
 fn prepare<F: Files>(alloc: Global, words: &[String], files: &mut F) -> Result<Text8, Status>
     ensures only_read { OnlyRead (F.seen files.old) (F.seen files.new) }
@@ -59,12 +75,15 @@ fn prepare<F: Files>(alloc: Global, words: &[String], files: &mut F) -> Result<T
             if command.as_str() == "check" {
                 return run_check(alloc, names, files);
             }
+            if command.as_str() == "quotes" {
+                return run_quotes(alloc, names, files);
+            }
             Err(Status::Usage(2))
         }
     }
 }
 
-/// What the program does for `quick` and `check`: it reads and judges the words and the files, and writes the answer to the sink. It
+/// What the program does for `quick`, `check` and `quotes`: it reads and judges the words and the files, and writes the answer to the sink. It
 /// returns for every input.
 ///
 /// The clauses speak of the plan of the words (`plan_of`), over what the files told at entry and what the sink tells.
