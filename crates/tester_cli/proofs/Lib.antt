@@ -1,4 +1,3 @@
-pub mod TimeLemmas
 pub mod ReportLemmas
 pub mod PassLemmas
 pub mod RunLemmas

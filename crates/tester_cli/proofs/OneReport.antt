@@ -2,7 +2,6 @@
 use Rattle.std.proofs.Common.{◌≡◌, ℕ, ℤ, pos, Bool, true, false, List, [], ◌∷◌, ◌++◌, ◌+◌, ◌/◌, ◌%◌, Option, Some, None, sym, ap, ◌∙◌, subst}
 use Rattle.std.specs.Prelude.{nat_le, unsigned_abs}
 use Rattle.std.specs.Bool.{MatchBool}
-use Rattle.jiff_core.proofs.DateLemmas.{epoch_day_injective}
 use Rattle.mql_mean.specs.declared.tree.Checked.{Checked}
 use Rattle.mql_mean.specs.declared.tree.Entry.TheVariants.{Tick}
 use Rattle.mql_mean.specs.Means.{event}
@@ -15,7 +14,7 @@ use Rattle.market_types.specs.declared.quote.Quote.{Quote}
 use Rattle.tester_cli.specs.declared.result.PassEnd.{PassEnd}
 use Rattle.tester_cli.specs.declared.result.PassResult.{PassResult}
 use Rattle.tester_cli.specs.declared.result.Printed.{Printed}
-use Rattle.tester_cli.specs.Times.{IsTimeText, date_text, clock_text}
+use Rattle.report.proofs.OneText.{time_once}
 use Rattle.tester_cli.specs.Report.{IsPrintLine, ArePrintLines, IsReport, report_head, shown_text}
 use Rattle.tester_cli.specs.Journal.{TesterStep, printed_text, journal_bytes, line_bytes}
 use Rattle.tester_cli.specs.Pass.{Stage, pass_end, at_time, loud, CallsTick, Takes, GoesOn, PassesFrom, first_stage}
@@ -31,18 +30,6 @@ pub world_is_function : IsFunction TesterStep
 world_is_function h call a b to to' p q =
     let text = printed_text call.args in
     chosen_once (nat_le (journal_bytes h.prints + line_bytes text) 1048576) (λ p q. (p.0 ∙ sym q.0, p.1 ∙ sym q.1)) (λ p q. (p.0 ∙ sym q.0, p.1 ∙ sym q.1)) p.step q.step
-
--- a time has one text
-time_once : (time : ℤ) (a b : List ℕ) → IsTimeText time a → IsTimeText time b → a ≡ b
-time_once time a b p q =
-    let counts : p.count ≡ q.count = cc in
-    let days = epoch_day_injective p.date q.date (p.on_day ∙ ap (λ n. pos (n / 86400000)) counts ∙ sym q.on_day) in
-    p.written
-    ∙ ap (λ y. date_text (unsigned_abs y) p.date.month p.date.day ++ 32 ∷ clock_text (p.count % 86400000)) days.0
-    ∙ ap (λ m. date_text (unsigned_abs q.date.year) m p.date.day ++ 32 ∷ clock_text (p.count % 86400000)) days.1
-    ∙ ap (λ d. date_text (unsigned_abs q.date.year) q.date.month d ++ 32 ∷ clock_text (p.count % 86400000)) days.2
-    ∙ ap (λ n. date_text (unsigned_abs q.date.year) q.date.month q.date.day ++ 32 ∷ clock_text (n % 86400000)) counts
-    ∙ sym q.written
 
 line_once : (printed : Printed) (a b : List ℕ) → IsPrintLine printed a → IsPrintLine printed b → a ≡ b
 line_once printed a b p q =

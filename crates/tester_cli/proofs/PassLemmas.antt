@@ -24,7 +24,7 @@ use Rattle.tester_cli.specs.declared.result.Printed.{Printed}
 use Rattle.tester_cli.specs.declared.result.PassEnd.{PassEnd}
 use Rattle.tester_cli.specs.declared.result.PassResult.{PassResult}
 use Rattle.mql_mean.specs.Store.{opening}
-use Rattle.tester_cli.specs.Times.{IsReportTime}
+use Rattle.report.specs.Times.{IsReportTime}
 use Rattle.tester_cli.specs.Journal.{opening_state, TesterState, TesterStep, PrintStep, with_print, journal_bytes, line_bytes, printed_text, void_reply}
 use Rattle.tester_cli.specs.Pass.{Stage, stage, Takes, loud, at_time, ends_here, PassesFrom, Passes}
 

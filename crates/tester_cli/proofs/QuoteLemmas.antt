@@ -12,7 +12,7 @@ use Rattle.tester_cli.specs.declared.result.PassResult.{PassResult}
 use Rattle.tester_cli.specs.Pass.{Passes}
 use Rattle.tester_cli.specs.Report.{IsReport}
 use Rattle.tester_cli.specs.Commands.{opening_quotes, Reports}
-use Rattle.tester_cli.specs.Times.{IsReportTime}
+use Rattle.report.specs.Times.{IsReportTime}
 
 -- a quote has a time that a report may have
 pub quote_time : (q : Quote) → IsQuote q → IsReportTime q.time_ms

@@ -3,8 +3,8 @@ use Rattle.std.proofs.Common.{◌≡◌, ℕ, List, [], ◌∷◌, ◌++◌, Res
 use Rattle.std.specs.Prelude.{OnOk}
 use Rattle.tester_cli.specs.declared.result.Printed.{Printed}
 use Rattle.tester_cli.specs.Report.{shown_text, IsPrintLine, ArePrintLines}
-use Rattle.tester_cli.specs.Times.{IsTimeText}
-use Rattle.tester_cli.specs.Pieces.{Appends}
+use Rattle.report.specs.Times.{IsTimeText}
+use Rattle.report.specs.Pieces.{Appends}
 
 pub two_pieces : {E : Type 0} (r : Result (Unit {0}) E) (old d1 d2 a b : List ℕ) → d1 ≡ old ++ a → OnOk r (d2 ≡ d1 ++ b) → OnOk r (d2 ≡ old ++ (a ++ b))
 two_pieces (Ok u) old d1 d2 a b e f = f ∙ ap (λ d. d ++ b) e ∙ append_assoc old a b

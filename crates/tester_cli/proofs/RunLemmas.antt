@@ -25,10 +25,11 @@ use Rattle.mql_parse.specs.Parsed.{Parsing}
 use Rattle.mql_level.specs.Level.{program}
 use Rattle.mql_mean.specs.Talk.{MeansTalks}
 use Rattle.tester_cli.proofs.OneReport.{reports_once}
-use Rattle.tester_sources.specs.Reading.{Tokens, most_files, never, program_plan, ReadInTurn, OneAnswer}
+use Rattle.tester_sources.specs.Reading.{Tokens, never, program_plan, ReadInTurn, OneAnswer}
 use Rattle.tester_sources.specs.Judging.{tree_plan, OneTree}
 use Rattle.tester_sources.proofs.SourceLemmas.{read_leads}
 use Rattle.tester_sources.proofs.JudgeLemmas.{program_lead, tree_leads, form_leads, tree_refused, form_refused, program_one, tree_one, with_program_one}
+use Rattle.mql_source.specs.Limits.{most_files}
 
 -- over files that have one answer of preprocessing, tokens that have one of the parser, and sources whose meaning is a talk with the world
 module _ (one : OneAnswer) (alone : OneTree) (talks : MeansTalks) where

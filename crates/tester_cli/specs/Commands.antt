@@ -45,10 +45,13 @@ reports checked bars held status text after = (status ≡ Done) × Reports check
 
 -- `quick EXPERT BARS`: the expert is read and judged before the bars
 abbrev pub quick_bars : List ℕ → Checked → Plan
-quick_bars bars checked = Reads bars price_limit (λ bytes. with_bars bars (bars_of_file bytes) (λ rows. Ends (reports checked rows)))
+quick_bars bars checked =
+    Reads bars price_limit (λ bytes. with_bars bars (bars_of_file bytes)
+    (λ rows. Ends (reports checked rows)))
 
 abbrev pub quick_tree : List ℕ → List ℕ → List Source → Tokens → Tree → Plan
-quick_tree expert bars sources tokens tree = with_program expert sources tokens (quick_bars bars) (program tokens tree)
+quick_tree expert bars sources tokens tree =
+    with_program expert sources tokens (quick_bars bars) (program tokens tree)
 
 abbrev pub quick_rest : List ℕ → List ℕ → List Source → Tokens → Plan
 quick_rest expert bars = tree_plan expert (quick_tree expert bars)
@@ -84,8 +87,8 @@ abbrev pub chosen : Bool → Plan → Plan → Plan
 chosen true a b = a
 chosen false a b = b
 
--- what the words of a command line do: no command or an unknown one breaks usage rule 2, a wrong number of names
--- rule 3
+-- what the words of a command line do: no command or an unknown one breaks usage rule 2, a wrong number of
+-- names rule 3
 abbrev pub plan_of : List (List ℕ) → Plan
 plan_of [] = refuses (Usage 2)
 plan_of (command ∷ names) =

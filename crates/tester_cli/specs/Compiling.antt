@@ -16,8 +16,8 @@ use Rattle.tester_sources.specs.Judging.{TreeRefused, FormRefused}
 use Rattle.tester_cli.specs.declared.compiler.CompileFault.{CompileFault}
 use Rattle.tester_cli.specs.declared.compiler.CompileFault.TheVariants as fault
 
--- a program of tokens: their tree is of the form that is built so far, and the code has an outcome exactly where that
--- source means it
+-- a program of tokens: their tree is of the form that is built so far, and the code has an outcome exactly
+-- where that source means it
 pub record IsProgramOf (tokens : Tokens) (code : Code) : Type 0 where
   pub tree : Tree
   pub parses : Parsing tokens (Ok tree)
@@ -34,14 +34,16 @@ pub record Compiles (entry : List ℕ) (sources : List Source) (code : Code) : T
 -- why tokens make no program: they have no tree, or it is not of the form
 abbrev pub ProgramRefused : List ℕ → List Source → Tokens → Status → Type 0
 ProgramRefused entry sources tokens s =
-    TreeRefused entry sources tokens s ⊎ ((tree : Tree) × Parsing tokens (Ok tree) × FormRefused entry sources tokens tree s)
+    TreeRefused entry sources tokens s ⊎ ((tree : Tree) × Parsing tokens (Ok tree)
+    × FormRefused entry sources tokens tree s)
 
 -- why files do not compile: a file is needed, or the first stage that finds a fault tells it
 abbrev pub CompileRefused : List ℕ → List Source → CompileFault → Type 0
 CompileRefused entry sources (fault.Need name) = Preprocesses entry sources (Err (preprocessing.Need name))
 CompileRefused entry sources (fault.Source given) =
     FilesRefused entry sources (status.Source given)
-    ⊎ ((tokens : Tokens) × Preprocesses entry sources (Ok tokens) × ProgramRefused entry sources tokens (status.Source given))
+    ⊎ ((tokens : Tokens) × Preprocesses entry sources (Ok tokens)
+    × ProgramRefused entry sources tokens (status.Source given))
 CompileRefused entry sources fault.OutOfMemory = Unit {0}
 
 -- the fault of a status that refuses a source

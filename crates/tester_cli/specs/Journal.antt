@@ -1,4 +1,5 @@
--- The journal of prints, and the world of a test without an account. Own, with MQL5 Reference, Common Functions, Print.
+-- The journal of prints, and the world of a test without an account. Own, with MQL5 Reference, Common
+-- Functions, Print.
 use Rattle.std.specs.Prelude.{◌≡◌, ℕ, ℤ, pos, ◌+◌, Bool, false, nat_le, List, [], ◌∷◌, ◌++◌, length, sum_by}
 use Rattle.std.specs.Bool.{MatchBool}
 use Rattle.std.specs.Fmt.{signed_decimal}
@@ -38,8 +39,9 @@ line_bytes text = length (shown_text text) + 1
 abbrev pub journal_bytes : List Printed → ℕ
 journal_bytes prints = sum_by (λ (printed : Printed). line_bytes printed.text) prints
 
--- what an expert's calls read and change: its prints, the time of the last loud quote (0 before it), the state of
--- MathRand's generator, the last error, what UninitializeReason tells, and whether ExpertRemove was called
+-- what an expert's calls read and change: its prints, the time of the last loud quote (0 before it), the
+-- state of MathRand's generator, the last error, what UninitializeReason tells, and whether ExpertRemove was
+-- called
 pub record TesterState : Type 0 where
   pub prints : List Printed
   pub time : ℤ
@@ -50,7 +52,10 @@ pub record TesterState : Type 0 where
 
 -- one more line of the journal
 abbrev pub with_print : TesterState → List ℕ → TesterState
-with_print state text = record state { prints = state.prints ++ record { time_ms = state.time; text = text } ∷ [] }
+with_print state text = record state {
+  prints =
+      state.prints ++ record { time_ms = state.time; text = text } ∷ [];
+}
 
 -- the reply of a void function
 abbrev pub void_reply : Answer
@@ -64,10 +69,19 @@ PrintStep state text answer after =
     ((answer ≡ Refused PrintsExhausted) × (after ≡ state))
 
 -- what a call gets and leaves
-pub record TesterStep (state : TesterState) (call : HostCall) (answer : Answer) (after : TesterState) : Type 0 where
+pub record TesterStep (state : TesterState) (call : HostCall) (answer : Answer)
+    (after : TesterState) : Type 0 where
   pub print : call.id ≡ native_number Print
   pub step : PrintStep state (printed_text call.args) answer after
 
 -- the state before the first quote
 abbrev pub opening_state : TesterState
-opening_state = record { prints = []; time = pos 0; generator = 1; last_error = 0; reason = pos 0; removal = false }
+opening_state = record {
+  prints = [];
+  time = pos 0;
+  generator = 1;
+  last_error = 0;
+  reason = pos 0;
+  removal =
+      false;
+}

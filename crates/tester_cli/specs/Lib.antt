@@ -4,5 +4,3 @@ pub mod Compiling
 pub mod Journal
 pub mod Pass
 pub mod Report
-pub mod Times
-pub mod Pieces

@@ -10,7 +10,7 @@ use Rattle.tester_cli.specs.declared.result.PassEnd.{PassEnd}
 use Rattle.tester_cli.specs.declared.result.PassEnd.TheVariants as end
 use Rattle.tester_cli.specs.declared.result.PassResult.{PassResult}
 use Rattle.tester_cli.specs.declared.result.Printed.{Printed}
-use Rattle.tester_cli.specs.Times.{IsTimeText}
+use Rattle.report.specs.Times.{IsTimeText}
 
 -- the name of a run error
 abbrev pub error_name : ErrorKind → List ℕ
@@ -52,7 +52,8 @@ pub record IsPrintLine (printed : Printed) (line : List ℕ) : Type 0 where
 -- the lines of the journal of prints, one after another
 abbrev pub ArePrintLines : List Printed → List ℕ → Type 0
 ArePrintLines [] text = text ≡ []
-ArePrintLines (printed ∷ more) text = (line rest : List ℕ) × IsPrintLine printed line × ArePrintLines more rest × (text ≡ line ++ rest)
+ArePrintLines (printed ∷ more) text = (line rest : List ℕ) × IsPrintLine printed line
+    × ArePrintLines more rest × (text ≡ line ++ rest)
 
 -- the lines of the settings
 unfoldable pub settings_lines : List ℕ
@@ -68,7 +69,8 @@ end_line end = codes "end " ++ end_text end ++ 10 ∷ []
 -- the lines before those of the prints
 unfoldable pub report_head : PassResult → List ℕ
 report_head result =
-    settings_lines ++ number_line (codes "quotes ") result.quotes ++ number_line (codes "loud ") result.loud ++ end_line result.end
+    settings_lines ++ number_line (codes "quotes ") result.quotes ++ number_line (codes "loud ") result.loud
+    ++ end_line result.end
     ++ number_line (codes "prints ") (length result.prints)
 
 -- the report of a test at opening prices with the default settings

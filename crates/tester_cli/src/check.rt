@@ -19,7 +19,8 @@ const OK: [u8; 3] = *b"ok\n";
 pub fn check<F: Files>(alloc: Global, entry: &str, files: &mut F) -> Result<Text8, Status>
     ensures only_read { OnlyRead (F.seen files.old) (F.seen files.new) }
     ensures ready { IfOk result (Has (check_plan entry.now) (F.seen files.old)) }
-    ensures refused { IfErr result (Refused Never (check_plan entry.now) (F.seen files.old) (F.seen files.new)) }
+    ensures refused { IfErr result (Refused Never (check_plan entry.now) (F.seen files.old)
+        (F.seen files.new)) }
 {
     let name = named(alloc, entry)?;
     let (sources, tokens) = read_sources(alloc, &name, files)?;

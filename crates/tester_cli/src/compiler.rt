@@ -1,6 +1,7 @@
 //! From the texts of a source to a program.
 ghost use Rattle.std.specs.Prelude.{◌≡◌, ◌≤◌, ◌^◌, length, All, IfOk, IfErr};
 ghost use Rattle.tester_cli.specs.Compiling.{IsProgramOf, Compiles, ProgramRefused, CompileRefused, FaultOf};
+ghost use Rattle.mql_source.specs.Limits.{most_tokens, most_units};
 
 use fx8::{OutOfMemory, Text8};
 use mql_lower::lower;
@@ -32,15 +33,15 @@ impl From<OutOfMemory> for CompileFault {
     }
 }
 
-/// The program of a source's tokens, or the status that refuses them: by stage 4 where they have no tree, by stage 7 where
-/// it is not of the form that is built so far.
+/// The program of a source's tokens, or the status that refuses them: by stage 4 where they have no tree, by
+/// stage 7 where it is not of the form that is built so far.
 pub fn judge_program(
     alloc: Global,
     entry: &Text8,
     sources: &Sources,
     tokens: &Tokens,
 ) -> Result<Program, Status>
-    requires { length tokens.now ≤ 400000 }
+    requires { length tokens.now ≤ most_tokens }
     ensures program { IfOk result (IsProgramOf tokens.now) }
     ensures refused { IfErr result (ProgramRefused entry.now sources.now tokens.now) }
 {
@@ -62,10 +63,11 @@ fn fault_of(status: Status) -> CompileFault
 
 /// Compiles the source of a name, with the files that it includes among the sources.
 ///
-/// The program has an outcome exactly where the source means it, for every entry, argument, host, store and bound.
+/// The program has an outcome exactly where the source means it, for every entry, argument, host, store and
+/// bound.
 pub fn compile(alloc: Global, entry: &Text8, sources: &Sources) -> Result<Program, CompileFault>
     requires few { length sources.now ≤ 2 ^ 32 }
-    requires short { All (λ s. length s.text ≤ 1048576) sources.now }
+    requires short { All (λ s. length s.text ≤ most_units) sources.now }
     ensures program { IfOk result (Compiles entry.now sources.now) }
     ensures refused { IfErr result (CompileRefused entry.now sources.now) }
 {

@@ -9,9 +9,9 @@ use mql_mean::is_talk;
 use mql_parse::one_answer as tokens_have_one_answer;
 use mql_preproc::one_answer as files_have_one_answer;
 
-/// Over given contents a command line has one answer: one status, one text, and one contents of the files after it.
-/// What the tester's world answers to an expert, and what it is then, is a function of what was asked. The call does
-/// nothing.
+/// Over given contents a command line has one answer: one status, one text, and one contents of the files
+/// after it. What the tester's world answers to an expert, and what it is then, is a function of what was
+/// asked. The call does nothing.
 pub fn one_answer()
     ensures answer { (words : List (List ℕ)) → OneEnd (plan_of words) }
     ensures world { IsFunction TesterStep }

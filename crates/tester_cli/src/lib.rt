@@ -6,10 +6,9 @@ pub mod compiler;
 mod law;
 pub mod pass;
 mod quick;
-mod report;
 pub mod result;
 mod run;
-mod time;
+mod test_report;
 pub mod world;
 
 pub use law::one_answer;

@@ -10,7 +10,7 @@ ghost use Rattle.market_data.specs.Markets.{quotes};
 ghost use Rattle.tester_cli.specs.Commands.{opening_quotes};
 ghost use Rattle.tester_cli.specs.Journal.{TesterStep};
 ghost use Rattle.tester_cli.specs.Pass.{Takes, Passes, PassesFrom, stage, pass_end};
-ghost use Rattle.tester_cli.specs.Times.{IsReportTime};
+ghost use Rattle.report.specs.Times.{IsReportTime};
 
 use crate::result::{PassEnd, PassResult};
 use crate::world::TesterWorld;
@@ -32,8 +32,10 @@ fn tick(
 ) -> Result<End, OutOfMemory>
     requires { IsTrue (has_entry program.now Tick) }
     ensures told { IfOk result (λ end. (checked : Checked) → Follows checked program.now
-        → Told TesterStep checked Tick (pos 0) machine.old steps.old world.old world.new end machine.new steps.new) }
-    ensures times { OnOk result (IsReportTime world.old.time → All (λ printed. IsReportTime printed.time_ms) world.old.prints
+        → Told TesterStep checked Tick (pos 0) machine.old steps.old world.old world.new end machine.new
+        steps.new) }
+    ensures times { OnOk result (IsReportTime world.old.time
+        → All (λ printed. IsReportTime printed.time_ms) world.old.prints
         → All (λ printed. IsReportTime printed.time_ms) world.new.prints) }
 {
     machine.call(program, Entry::Tick, 0, steps, world)
@@ -62,7 +64,8 @@ fn take(
     ensures took { IfOk result (λ end. (checked : Checked) → Follows checked program.now → (quotes loud : ℕ)
         → Takes checked quote.now (stage machine.old steps.old world.old quotes loud) end
         (stage machine.new steps.new world.new (quotes + 1) (if quote.now.loud then loud + 1 else loud))) }
-    ensures times { OnOk result (All (λ printed. IsReportTime printed.time_ms) world.old.prints → All (λ printed. IsReportTime printed.time_ms) world.new.prints) }
+    ensures times { OnOk result (All (λ printed. IsReportTime printed.time_ms) world.old.prints
+        → All (λ printed. IsReportTime printed.time_ms) world.new.prints) }
 {
     if !quote.loud {
         return Ok(None);
@@ -82,8 +85,8 @@ fn counted(count: u64, counts: bool) -> u64
     if counts { count + 1 } else { count }
 }
 
-/// The market of `quick`: the symbol `SYMBOL` with the default numbers, at opening prices of the period M1, over bars as
-/// `read_bars` gives them.
+/// The market of `quick`: the symbol `SYMBOL` with the default numbers, at opening prices of the period M1,
+/// over bars as `read_bars` gives them.
 #[tactic(auto, using(crate::proofs::QuoteLemmas::symbol_name))]
 pub fn market_of(alloc: Global, file: &str, bars: BarList) -> Result<Market, OutOfMemory>
     requires { AreBars bars }
@@ -96,8 +99,8 @@ pub fn market_of(alloc: Global, file: &str, bars: BarList) -> Result<Market, Out
     Ok(market)
 }
 
-/// A pass of a program over the quotes of a market: at each loud quote `OnTick` is called, with 50,000,000 steps for all
-/// calls together.
+/// A pass of a program over the quotes of a market: at each loud quote `OnTick` is called, with 50,000,000
+/// steps for all calls together.
 ///
 /// What it comes to is what every source means that the program follows.
 #[tactic(auto, using(crate::proofs::QuoteLemmas::quote_time))]
@@ -106,7 +109,8 @@ pub fn run_pass(
     program: &Program,
     market: &Market,
 ) -> Result<PassResult, OutOfMemory>
-    ensures passes { IfOk result (λ outcome. (checked : Checked) → Follows checked program.now → Passes checked (quotes market.now) outcome) }
+    ensures passes { IfOk result (λ outcome. (checked : Checked) → Follows checked program.now
+        → Passes checked (quotes market.now) outcome) }
     ensures times { IfOk result (λ outcome. All (λ printed. IsReportTime printed.time_ms) outcome.prints) }
 {
     let mut machine = Machine::new(alloc);

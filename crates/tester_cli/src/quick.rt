@@ -12,7 +12,7 @@ ghost use Rattle.tester_cli.specs.Commands.{quick_plan, quick_bars, Reports};
 
 use crate::compiler::judge_program;
 use crate::pass::{market_of, run_pass};
-use crate::report::report_text;
+use crate::test_report::report_text;
 use fx8::{OutOfMemory, Text8};
 use market_data::{BarList, RowFault, read_bars};
 use stack_vm::Program;
@@ -53,7 +53,8 @@ fn judge_bars(alloc: Global, name: Text8, bytes: &[u8]) -> Result<BarList, Statu
 #[tactic(auto, using(crate::proofs::QuoteLemmas::reports_over))]
 fn report(alloc: Global, program: &Program, file: &str, bars: BarList) -> Result<Text8, OutOfMemory>
     requires { AreBars bars }
-    ensures { IfOk result (λ text. (checked : Checked) → Follows checked program.now → Reports checked bars text) }
+    ensures { IfOk result (λ text. (checked : Checked) → Follows checked program.now
+        → Reports checked bars text) }
 {
     let market = market_of(alloc, file, bars)?;
     let outcome = run_pass(alloc, program, &market)?;
@@ -89,7 +90,8 @@ pub fn quick<F: Files>(
 ) -> Result<Text8, Status>
     ensures only_read { OnlyRead (F.seen files.old) (F.seen files.new) }
     ensures ready { IfOk result (Has (quick_plan expert.now bars.now) (F.seen files.old)) }
-    ensures refused { IfErr result (Refused Never (quick_plan expert.now bars.now) (F.seen files.old) (F.seen files.new)) }
+    ensures refused { IfErr result (Refused Never (quick_plan expert.now bars.now) (F.seen files.old)
+        (F.seen files.new)) }
 {
     let name = named(alloc, expert)?;
     let (sources, tokens) = read_sources(alloc, &name, files)?;

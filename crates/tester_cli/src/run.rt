@@ -19,7 +19,8 @@ use tester_market::quotes;
 fn run_quick<F: Files>(alloc: Global, names: &[String], files: &mut F) -> Result<Text8, Status>
     ensures only_read { OnlyRead (F.seen files.old) (F.seen files.new) }
     ensures ready { IfOk result (Has (quick_names (words_of names.now)) (F.seen files.old)) }
-    ensures refused { IfErr result (RefusedBy (quick_names (words_of names.now)) (F.seen files.old) (F.seen files.new)) }
+    ensures refused { IfErr result (RefusedBy (quick_names (words_of names.now)) (F.seen files.old)
+        (F.seen files.new)) }
 {
     if names.len() != 2 {
         return Err(Status::Usage(3));
@@ -34,7 +35,8 @@ fn run_quick<F: Files>(alloc: Global, names: &[String], files: &mut F) -> Result
 fn run_check<F: Files>(alloc: Global, names: &[String], files: &mut F) -> Result<Text8, Status>
     ensures only_read { OnlyRead (F.seen files.old) (F.seen files.new) }
     ensures ready { IfOk result (Has (check_names (words_of names.now)) (F.seen files.old)) }
-    ensures refused { IfErr result (RefusedBy (check_names (words_of names.now)) (F.seen files.old) (F.seen files.new)) }
+    ensures refused { IfErr result (RefusedBy (check_names (words_of names.now)) (F.seen files.old)
+        (F.seen files.new)) }
 {
     if names.len() != 1 {
         return Err(Status::Usage(3));
@@ -49,7 +51,8 @@ fn run_check<F: Files>(alloc: Global, names: &[String], files: &mut F) -> Result
 fn run_quotes<F: Files>(alloc: Global, names: &[String], files: &mut F) -> Result<Text8, Status>
     ensures only_read { OnlyRead (F.seen files.old) (F.seen files.new) }
     ensures ready { IfOk result (Has (quotes_names (words_of names.now)) (F.seen files.old)) }
-    ensures refused { IfErr result (RefusedBy (quotes_names (words_of names.now)) (F.seen files.old) (F.seen files.new)) }
+    ensures refused { IfErr result (RefusedBy (quotes_names (words_of names.now)) (F.seen files.old)
+        (F.seen files.new)) }
 {
     if names.len() != 1 {
         return Err(Status::Usage(3));
@@ -64,7 +67,8 @@ fn run_quotes<F: Files>(alloc: Global, names: &[String], files: &mut F) -> Resul
 fn prepare<F: Files>(alloc: Global, words: &[String], files: &mut F) -> Result<Text8, Status>
     ensures only_read { OnlyRead (F.seen files.old) (F.seen files.new) }
     ensures ready { IfOk result (Has (plan_of (words_of words.now)) (F.seen files.old)) }
-    ensures refused { IfErr result (RefusedBy (plan_of (words_of words.now)) (F.seen files.old) (F.seen files.new)) }
+    ensures refused { IfErr result (RefusedBy (plan_of (words_of words.now)) (F.seen files.old)
+        (F.seen files.new)) }
 {
     match words {
         [] => Err(Status::Usage(2)),
@@ -83,22 +87,24 @@ fn prepare<F: Files>(alloc: Global, words: &[String], files: &mut F) -> Result<T
     }
 }
 
-/// What the program does for `quick`, `check` and `quotes`: it reads and judges the words and the files, and writes the answer to the sink. It
-/// returns for every input.
+/// What the program does for `quick`, `check` and `quotes`: it reads and judges the words and the files, and
+/// writes the answer to the sink. It returns for every input.
 ///
-/// The clauses speak of the plan of the words (`plan_of`), over what the files told at entry and what the sink tells.
+/// The clauses speak of the plan of the words (`plan_of`), over what the files told at entry and what the
+/// sink tells.
 pub fn run_single<F: Files, S: Sink>(
     alloc: Global,
     words: &[String],
     files: &mut F,
     out: &mut S,
 ) -> Status
-    // At Done the sink gained a text that the plan has with Done, and the files are as the plan has them with it.
+    // At Done the sink gained a text that the plan has with Done, and the files are as the plan has them with
+    // it.
     ensures done { result ≡ Status.Done → Wrote (plan_of (words_of words.now))
         (F.seen files.old) (F.seen files.new) (S.seen out.old) (S.seen out.new) }
 
-    // At Usage to Grid the plan has that very status, the sink is as it was and no file changed; Usage is by the
-    // words alone.
+    // At Usage to Grid the plan has that very status, the sink is as it was and no file changed; Usage is by
+    // the words alone.
     ensures judged { AtJudgement result ((out.new ≡ out.old)
         × IsRefused (plan_of (words_of words.now)) (F.seen files.old) (F.seen files.new) result) }
 
@@ -106,8 +112,8 @@ pub fn run_single<F: Files, S: Sink>(
     ensures unread { AtUnread result ((out.new ≡ out.old)
         × IsRefused (plan_of (words_of words.now)) (F.seen files.old) (F.seen files.new) result) }
 
-    // At WriteFault the sink's count rose, and the sink gained a beginning of a text that the plan has with Done; or
-    // that of the files rose, and the writing of a file of the plan was cut short.
+    // At WriteFault the sink's count rose, and the sink gained a beginning of a text that the plan has with
+    // Done; or that of the files rose, and the writing of a file of the plan was cut short.
     ensures unwritten { result ≡ Status.WriteFault → Unwritten (plan_of (words_of words.now))
         (F.seen files.old) (F.seen files.new) (S.seen out.old) (S.seen out.new) }
 
@@ -115,8 +121,8 @@ pub fn run_single<F: Files, S: Sink>(
     ensures memory { result ≡ Status.OutOfMemory → NoMemory (plan_of (words_of words.now))
         (F.seen files.old) (F.seen files.new) (S.seen out.old) (S.seen out.new) }
 
-    // Where the plan has Done over what is told, and no fault of reading or writing was counted, all is done but for
-    // memory.
+    // Where the plan has Done over what is told, and no fault of reading or writing was counted, all is done
+    // but for memory.
     ensures complete { Completes (plan_of (words_of words.now))
         (F.seen files.old) (F.seen files.new) (S.seen out.old) (S.seen out.new) result }
 {

@@ -5,8 +5,8 @@ ghost use Rattle.std.specs.Bool.{MatchBool};
 ghost use Rattle.tester_cli.specs.Journal.{printed_value, printed_text, line_bytes, with_print};
 ghost use Rattle.std.specs.Fmt.{signed_decimal};
 
-use crate::report::push_shown;
 use crate::result::{PrintList, Printed};
+use crate::test_report::push_shown;
 use fx8::{IntKind, ItemList, OutOfMemory, Text, Text8};
 use mql_mean::{ErrorKind, Host, HostCall, HostEnd, Reply, Value};
 use std::alloc::Global;
@@ -34,7 +34,15 @@ impl Model for TesterWorld {
 
     ghost Value = { TesterState };
 
-    ghost view = { λ w. record { prints = w.prints; time = w.time_ms; generator = w.generator; last_error = w.last_error; reason = w.uninitialize_reason; removal = w.removal_asked } };
+    ghost view = { λ w. record {
+      prints = w.prints;
+      time = w.time_ms;
+      generator = w.generator;
+      last_error =
+          w.last_error;
+      reason = w.uninitialize_reason;
+      removal = w.removal_asked;
+    } };
 
     ghost invariant = { λ w. (w.bytes_taken ≡ journal_bytes w.prints) × (w.bytes_taken ≤ 1048576) };
 }
@@ -97,7 +105,8 @@ fn line_bytes(alloc: Global, text: &Text) -> Result<u64, OutOfMemory>
 impl TesterWorld {
     ghost use Rattle.tester_cli.specs.Journal.{TesterState, opening_state, PrintStep, void_reply, journal_bytes};
 
-    /// The world before the first quote: nothing printed, no time, no error, the generator at its default state.
+    /// The world before the first quote: nothing printed, no time, no error, the generator at its default
+    /// state.
     pub fn new(alloc: Global) -> TesterWorld
         ensures { result ≡ opening_state }
     {
@@ -131,7 +140,8 @@ impl TesterWorld {
     fn print(&mut self, text: Text, bytes: u64) -> Result<bool, OutOfMemory>
         requires { bytes ≡ line_bytes text }
         ensures { IfOk result (λ fits. MatchBool fits
-            ((journal_bytes self.old.prints + line_bytes text ≤ 1048576) × (self.new ≡ with_print self.old text))
+            ((journal_bytes self.old.prints + line_bytes text ≤ 1048576)
+            × (self.new ≡ with_print self.old text))
             ((1048576 < journal_bytes self.old.prints + line_bytes text) × (self.new ≡ self.old))) }
     {
         if bytes > JOURNAL_LIMIT - self.bytes_taken {

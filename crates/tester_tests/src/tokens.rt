@@ -2,6 +2,7 @@
 use mql_tree::{LexFault, TextFault, Token, Tokens, lex, text_of_bytes};
 use std::alloc::Global;
 use std::test::Fail;
+use mql_source::MOST_UNITS;
 
 /// The signs in the order of their numbers.
 const SIGNS: &[u8] =
@@ -10,7 +11,7 @@ const SIGNS: &[u8] =
 /// The tokens of file 3 with this text.
 fn tokens_of(alloc: Global, source: &[u8]) -> Result<Result<Tokens, LexFault>, Fail> {
     let text = text_of_bytes(alloc, source)?;
-    if text.len() > 1_048_576 {
+    if text.len() > MOST_UNITS {
         return Err("the text is too long".into());
     }
     Ok(lex(alloc, 3, &text))

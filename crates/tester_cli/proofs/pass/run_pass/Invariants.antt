@@ -6,7 +6,7 @@ use Rattle.market_data.specs.Markets.{quotes}
 use Rattle.tester_cli.specs.declared.result.PassResult.{PassResult}
 use Rattle.tester_cli.specs.declared.result.Printed.{Printed}
 use Rattle.tester_cli.specs.Pass.{Passes, PassesFrom, stage}
-use Rattle.tester_cli.specs.Times.{IsReportTime}
+use Rattle.report.specs.Times.{IsReportTime}
 use Rattle.tester_cli.proofs.pass.run_pass.Given as goal
 
 abbrev pub invariant-loop-quote : goal.invariant-loop-quote

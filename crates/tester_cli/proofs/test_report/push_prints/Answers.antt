@@ -1,7 +1,7 @@
 use Rattle.std.proofs.Common.{sym, ap, ◌∙◌, ◌++◌, [], ◌∷◌, take}
 use Rattle.std.proofs.lemmas.List.{take_more}
 use Rattle.tester_cli.proofs.ReportLemmas.{prints_snoc}
-use Rattle.tester_cli.proofs.report.push_prints.Goals as goal
+use Rattle.tester_cli.proofs.test_report.push_prints.Goals as goal
 
 pub loop-printed-preserved : goal.loop-printed-preserved
 loop-printed-preserved c =

@@ -3,13 +3,13 @@ ghost use Rattle.std.specs.Prelude.{◌≡◌, ℤ, pos, [], ◌∷◌, ◌++◌
 ghost use Rattle.std.specs.Fmt.{decimal, signed_decimal};
 ghost use Rattle.std.specs.List.{flat_map};
 ghost use Rattle.tester_cli.specs.Report.{error_name, end_text, shown_byte, shown_text, settings_lines, number_line, end_line, IsPrintLine, ArePrintLines, report_head, IsReport};
-ghost use Rattle.tester_cli.specs.Times.{IsReportTime};
-ghost use Rattle.tester_cli.specs.Pieces.{Appends};
+ghost use Rattle.report.specs.Times.{IsReportTime};
+ghost use Rattle.report.specs.Pieces.{Appends};
 
 use crate::result::{PassEnd, PassResult, Printed};
-use crate::time::push_time;
 use fx8::{OutOfMemory, Text8};
 use mql_mean::ErrorKind;
+use report::push_time;
 use std::alloc::Global;
 use tester_answer::text::push_number;
 
@@ -144,8 +144,8 @@ fn push_head(text: &mut Text8, outcome: &PassResult) -> Result<(), OutOfMemory>
     push_number_line(text, b"prints ", outcome.prints.len())
 }
 
-/// The report of a test: the settings, what the pass came to, and what the expert printed. It asks that the prints
-/// have times of the years 1970 to 2999.
+/// The report of a test: the settings, what the pass came to, and what the expert printed. It asks that the
+/// prints have times of the years 1970 to 2999.
 pub fn report_text(alloc: Global, outcome: &PassResult) -> Result<Text8, OutOfMemory>
     requires { All (λ printed. IsReportTime printed.time_ms) outcome.now.prints }
     ensures { IfOk result (λ text. IsReport outcome.now text) }

@@ -2,7 +2,7 @@ use Rattle.std.proofs.Common.{rules, FitsSigned, w32}
 use Rattle.std.proofs.lemmas.Int.{to_z-of_z}
 use Rattle.std.specs.Fmt.{signed_decimal}
 use Rattle.tester_cli.proofs.ReportLemmas.{two_pieces}
-use Rattle.tester_cli.proofs.report.push_end.Goals as goal
+use Rattle.tester_cli.proofs.test_report.push_end.Goals as goal
 
 pub returns-in_ok-extend_from_slice-in-InitFailed : goal.returns-in_ok-extend_from_slice-in-InitFailed
 returns-in_ok-extend_from_slice-in-InitFailed c =
