@@ -8,6 +8,8 @@ mod lists;
 #[cfg(test)]
 mod lowering;
 #[cfg(test)]
+mod market;
+#[cfg(test)]
 mod outside;
 #[cfg(test)]
 mod parts;

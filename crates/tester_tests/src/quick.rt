@@ -47,7 +47,7 @@ fn reports_over_files_that_never_fail(rt: HostRuntime) -> Result<(), Fail> {
 
 #[test]
 fn tells_the_first_fault_of_words_and_files(rt: HostRuntime) -> Result<(), Fail> {
-    let table: [(&[&str], &[(&[u8], &[u8])], &[u32], &[u8]); 15] = [
+    let table: [(&[&str], &[(&[u8], &[u8])], &[u32], &[u8]); 17] = [
         (&[], &HELD, &[], b"error 1 2\n"),
         (&["Quick", "a.mq5", "bars.csv"], &HELD, &[], b"error 1 2\n"),
         (&["quick"], &HELD, &[], b"error 1 3\n"),

@@ -1,8 +1,8 @@
 //! Each sign, each escape and each fault of the tokens of a text.
+use mql_source::MOST_UNITS;
 use mql_tree::{LexFault, TextFault, Token, Tokens, lex, text_of_bytes};
 use std::alloc::Global;
 use std::test::Fail;
-use mql_source::MOST_UNITS;
 
 /// The signs in the order of their numbers.
 const SIGNS: &[u8] =
