@@ -4,10 +4,6 @@
 #[cfg(test)]
 mod experts;
 #[cfg(test)]
-mod lists;
-#[cfg(test)]
-mod lowering;
-#[cfg(test)]
 mod market;
 #[cfg(test)]
 mod outside;
@@ -21,5 +17,3 @@ mod rows;
 mod sources;
 #[cfg(test)]
 mod statuses;
-#[cfg(test)]
-mod tokens;
