@@ -73,13 +73,31 @@ fn writes_a_line_for_each_quote(rt: HostRuntime) -> Result<(), Fail> {
 
 #[test]
 fn tells_the_first_fault_of_settings_and_prices(rt: HostRuntime) -> Result<(), Fail> {
-    let table: [(&[u8], &[u8], &[u32], &[u8]); 10] = [
+    let table: [(&[u8], &[u8], &[u32], &[u8]); 13] = [
         (b"deposit = 1.5\n", BARS, &[], b"error 3 4 deposit\n"),
         (b"leverage = 0\n", BARS, &[], b"error 3 5 leverage\n"),
         (b"mode = \"every\"\n", BARS, &[], b"error 3 6 mode\n"),
         (b"", BARS, &[], b"error 3 7 \n"),
         (b"speed = 1\n", BARS, &[], b"error 3 2 speed\n"),
         (b"mode = \n", BARS, &[], b"error 3 1 \n"),
+        (
+            b"[[symbol]]\nname = \"E\"\ndata = \"p.csv\"\nvolume_max = 1001\n",
+            BARS,
+            &[],
+            b"error 3 5 symbol.0.volume_max\n",
+        ),
+        (
+            b"[[symbol]]\nname = \"E\"\ndata = \"p.csv\"\nstops_level = 1000001\n",
+            BARS,
+            &[],
+            b"error 3 5 symbol.0.stops_level\n",
+        ),
+        (
+            b"[[symbol]]\nname = \"E\"\ndata = \"p.csv\"\nswap_short = -1000001\n",
+            BARS,
+            &[],
+            b"error 3 5 symbol.0.swap_short\n",
+        ),
         (OHLC, BARS, &[0], b"error 8 s.toml\n"),
         (OHLC, BARS, &[1], b"error 8 p.csv\n"),
         (REAL, BARS, &[], b"error 4 p.csv 1 1\n"),
