@@ -65,7 +65,7 @@ fn writes_a_line_for_each_quote(rt: HostRuntime) -> Result<(), Fail> {
         )?;
         let mut out = sink(rt.alloc(), &[])?;
         let told = run(rt.alloc(), &["quotes", "s.toml"], &mut files, &mut out)?;
-        assert_eq!(rt; told.as_slice(), b"");
+        assert!(rt; told.is_empty());
         assert_eq!(rt; out.bytes().as_slice(), *want);
     }
     Ok(())
@@ -117,6 +117,6 @@ fn tells_the_first_fault_of_settings_and_prices(rt: HostRuntime) -> Result<(), F
     let mut files = files(rt.alloc(), &[(b"s.toml", OHLC)], &[])?;
     let mut out = sink(rt.alloc(), &[])?;
     let told = run(rt.alloc(), &["quotes", "s.toml"], &mut files, &mut out)?;
-    assert_eq!(rt; told.as_slice(), b"error 7 p.csv\n");
+    assert!(rt; told.as_slice() == b"error 7 p.csv\n".as_slice());
     Ok(())
 }
