@@ -1,0 +1,3 @@
+pub mod NativeNames
+pub mod Numbers
+pub mod ShortNames
