@@ -2,11 +2,11 @@
 """Writes the tables of the crate natives from the lines below, as definitions and as Rust.
 
 It writes in crates/natives
-    specs/Names.antt, Signatures.antt, Constants.antt, Types.antt    the definitions
-    src/native.rt, constant.rt, structure.rt, field.rt, predefined.rt, supplied.rt    the same as code
-    proofs/Found*.antt    that each spelling finds its own entry
+    specs/Names.antt, Signatures.antt, Structures.antt, Constants.antt    the definitions
+    src/native.rt, short_name.rt, signatures.rt, field.rt, supplied.rt, predefined.rt, constant.rt    the same as code
+    proofs    that each spelling and each number finds its own entry
 and docs/natives.md. Nothing trusts it: a reader compares the definitions with the MQL5 Reference, and the check of the crate
-proves that the code has the definitions' values.
+proves that the code has the definitions' values. `rt fmt` in the crate lays the code out behind it.
 
     python3 tools/native_tables.py
 """
@@ -713,7 +713,7 @@ numbers_proof()
 def signatures():
     write("specs/Signatures.antt", f"""-- What the native functions take and give (MQL5 Reference; the chapters stand below). One line is one function: where it
 -- is answered, its result, its parameters in order, and what it may set the last error to.
-use Rattle.std.specs.Prelude.{{ℕ, ◌+◌, ℤ, pos, negsuc, Bool, true, false, List, [], ◌∷◌, Option, Some, None, is_some}}
+use Rattle.std.specs.Prelude.{{ℕ, ◌+◌, ℤ, pos, negsuc, Bool, true, false, List, [], ◌∷◌, Some, None, is_some}}
 use Rattle.fx8.specs.declared.int_kind.IntKind.TheVariants as kind
 use Rattle.natives.specs.declared.types.SimpleType.{{SimpleType}}
 use Rattle.natives.specs.declared.types.SimpleType.TheVariants as simple
@@ -925,7 +925,7 @@ impl Native {{
         ensures {{ result ≡ (signature self).answered }}
     {{
         match self {{
-{grouped([(n.name, "Evaluation::" + answered[n.answered]) for n in ALL])}        }}
+{arms([(n.name, "Evaluation::" + answered[n.answered]) for n in ALL])}        }}
     }}
 
     /// What it gives.
@@ -934,7 +934,7 @@ impl Native {{
         ensures {{ result ≡ (signature self).result }}
     {{
         match self {{
-{grouped([(n.name, rust_result(n.result)) for n in ALL])}        }}
+{arms([(n.name, rust_result(n.result)) for n in ALL])}        }}
     }}
 
     /// Its parameters, in order.
@@ -943,7 +943,7 @@ impl Native {{
         ensures {{ result.now ≡ (signature self).parameters }}
     {{
         match self {{
-{grouped([(n.name, "&[" + ", ".join(parameter_word(k, d) for k, _, d in n.parameters) + "]") for n in ALL])}        }}
+{arms([(n.name, "&[" + ", ".join(parameter_word(k, d) for k, _, d in n.parameters) + "]") for n in ALL])}        }}
     }}
 
     /// What it may set the last error to where it fails.
@@ -952,7 +952,7 @@ impl Native {{
         ensures {{ result.now ≡ (signature self).may_set }}
     {{
         match self {{
-{grouped([(n.name, "&[" + ", ".join("LastError::" + ERRORS[e] for e in n.errors) + "]") for n in ALL])}        }}
+{arms([(n.name, "&[" + ", ".join("LastError::" + ERRORS[e] for e in n.errors) + "]") for n in ALL])}        }}
     }}
 
     /// The least number of arguments.
@@ -978,11 +978,8 @@ def parameter_word(kind, default):
     return re.sub(r"\W+", "_", text).strip("_").upper()
 
 
-def grouped(pairs):
-    groups = {}
-    for name, value in pairs:
-        groups.setdefault(value, []).append(f"Native::{camel(name)}")
-    return "".join(f"            {' | '.join(names)} => {value},\n" for value, names in groups.items())
+def arms(pairs):
+    return "".join(f"            Native::{camel(name)} => {value},\n" for name, value in pairs)
 
 
 def signature_lines():
@@ -1067,12 +1064,9 @@ def spec_simple(t):
 
 
 def constants():
-    groups = {}
-    for v, _, _, kind, n in ROWS:
-        value = f"ConstantValue::Double(Fix8::of_units({n}))" if kind == "double" else \
-            f"ConstantValue::Integer(IntKind::{kind.capitalize()}, {n})"
-        groups.setdefault(value, []).append(f"Constant::{v}")
-    arms = "".join(f"            {' | '.join(names)} => {value},\n" for value, names in groups.items())
+    values = {v: f"ConstantValue::Double(Fix8::of_units({n}))" if kind == "double" else
+              f"ConstantValue::Integer(IntKind::{kind.capitalize()}, {n})" for v, _, _, kind, n in ROWS}
+    arms = "".join(f"            Constant::{v} => {value},\n" for v, value in values.items())
     CONSTANT.inside = f"""
     /// Its value.
     #[tactic(auto, unfolding(crate::specs::Constants::constant_value))]
@@ -1125,9 +1119,10 @@ unfoldable pub constant_value : Constant → ConstantValue
 
 
 def types():
-    rust_fields = "".join(f"            Structure::{s} => &[\n" + "".join(
-        f"                Field {{ name: FieldName::{camel(n)}, kind: {rust_simple(k)} }},\n" for k, n in fs)
-        + "            ],\n" for s, fs in FIELDS)
+    rust_fields = "".join(f"            Structure::{s} => fields! {{\n" + "".join(
+        f"                {camel(n)}: {k.upper()};\n" for k, n in fs) + "            },\n" for s, fs in FIELDS)
+    used = dict.fromkeys(k for _, fs in FIELDS for k, _ in fs)
+    rust_kinds = "".join(f"const {k.upper()}: SimpleType = {rust_simple(k)};\n" for k in used)
     write("src/supplied.rt", f"""//! The supplied types.
 ghost use Rattle.std.specs.Prelude.{{◌≡◌, ◌↔◌, ℕ, List, Some}};
 ghost use Rattle.natives.specs.declared.supplied.SuppliedType as supplieds;
@@ -1152,7 +1147,9 @@ use mql_spelling::is_spelled;
     write("src/field.rt", f"""//! The fields of the supplied structures.
 ghost use Rattle.std.specs.Prelude.{{◌≡◌, ◌↔◌, ℕ, List, Some}};
 ghost use Rattle.natives.specs.declared.field.FieldName as fields;
-ghost use Rattle.natives.specs.Structures.{{field_spelling, field_named, fields_of, field_kind}};
+ghost use Rattle.natives.specs.declared.types.Structure.{{Structure as structures}};
+ghost use Rattle.natives.specs.declared.types.SimpleType.{{SimpleType as types}};
+ghost use Rattle.natives.specs.Structures.{{field_spelling, field_named, fields_of, field_kind, HasField}};
 ghost use Rattle.mql_spelling.specs.Spelled.{{spelled_among}};
 
 use crate::types::{{SimpleType, Structure}};
@@ -1167,6 +1164,14 @@ pub struct Field {{
     pub name: FieldName,
     /// Its type.
     pub kind: SimpleType,
+}}
+
+{rust_kinds}
+/// Fields, each with its type.
+macro_rules! fields {{
+    ($($name:ident: $kind:expr;)*) => {{
+        &[$(Field {{ name: FieldName::$name, kind: $kind }}),*]
+    }};
 }}
 
 /// The type of the first of some fields that has this name.
@@ -1202,14 +1207,20 @@ impl Structure {{
         kind_in(self.fields(), units)
     }}
 }}
+
+/// A structure's field of a name has a type exactly where one of its fields has this name and this type.
+pub fn structures_have_fields()
+    ensures {{ (structure : structures) (units : List ℕ) (kind : types) →
+        (field_kind (fields_of structure) units ≡ Some kind) ↔ HasField (fields_of structure) units kind }}
+{{}}
 """)
     lists = ""
     for s, fs in FIELDS:
         lists += f"fields_of structures.{s} =\n"
-        lists += "".join(f"    field fields.{camel(n)} {spec_simple(k)} ∷\n" for k, n in fs) + "    []\n"
+        lists += "".join(f"    a_field fields.{camel(n)} {spec_simple(k)} ∷\n" for k, n in fs) + "    []\n"
     write("specs/Structures.antt", f"""-- The supplied types with their fields, and the predefined names (MQL5 Reference, Standard Constants, Enumerations and
 -- Structures, Structures of Data; Predefined Variables; Predefined Macro Substitutions).
-use Rattle.std.specs.Prelude.{{ℕ, List, [], ◌∷◌, codes, Option, Some, None, bytes_eq, if◌then◌else◌}}
+use Rattle.std.specs.Prelude.{{◌≡◌, ℕ, List, [], ◌∷◌, codes, Option, Some, None, slice_get, bytes_eq, if◌then◌else◌}}
 use Rattle.fx8.specs.declared.int_kind.IntKind.TheVariants as kind
 use Rattle.natives.specs.declared.types.SimpleType.{{SimpleType}}
 use Rattle.natives.specs.declared.types.SimpleType.TheVariants as simple
@@ -1224,8 +1235,9 @@ abbrev pub structure_of : SuppliedType → Option Structure
 {"".join(f"structure_of supplieds.{s} = Some structures.{s}{chr(10)}" for s, _ in FIELDS)}structure_of _ = None
 
 {FIELD.clauses()}
-abbrev field : FieldName → SimpleType → Field
-field n k = record {{ name = n; kind = k }}
+-- a field by its name and type
+abbrev a_field : FieldName → SimpleType → Field
+a_field n k = record {{ name = n; kind = k }}
 
 -- the fields of a structure, in order
 unfoldable pub fields_of : Structure → List Field
@@ -1235,10 +1247,78 @@ abbrev pub field_kind : List Field → List ℕ → Option SimpleType
 field_kind [] us = None
 field_kind (f ∷ fs) us = if bytes_eq us (field_spelling f.name) then Some f.kind else field_kind fs us
 
+-- some fields have one of this name and type
+pub record HasField (fs : List Field) (us : List ℕ) (k : SimpleType) : Type 0 where
+  pub place : ℕ
+  pub field : Field
+  pub there : slice_get fs place ≡ Some field
+  pub spelled : us ≡ field_spelling field.name
+  pub typed : field.kind ≡ k
+
 {PREDEFINEDS.clauses()}
 -- the type of the value of a predefined name
 abbrev pub predefined_kind : Predefined → SimpleType
 {"".join(f"predefined_kind predefineds.{camel(p)} = {spec_simple(k)}{chr(10)}" for k, p in GIVEN)}""")
+    write("proofs/StructureFields.antt", """-- The field of a name, of a structure whose fields have different names.
+use Rattle.std.proofs.Common.{◌≡◌, ℕ, zero, suc, Bool, true, false, cond, not, ◌&&◌, List, [], ◌∷◌, Option, Some, None, is_some, slice_get, refl, ap, ◌∙◌, sym, ◌↔◌, bytes_eq}
+use Rattle.std.proofs.lemmas.Slice.Eq.{bytes_eq-Decides}
+use Rattle.natives.specs.declared.types.SimpleType.{SimpleType}
+use Rattle.natives.specs.declared.types.Structure.{Structure}
+use Rattle.natives.specs.declared.types.Structure.TheVariants as structures
+use Rattle.natives.specs.declared.field.Field.{Field}
+use Rattle.natives.specs.Structures.{field_spelling, fields_of, field_kind, HasField}
+
+told : (fs : List Field) (us : List ℕ) (k : SimpleType) → field_kind fs us ≡ Some k → HasField fs us k
+told [] us k h = absurd (let q : ◌≡◌ {A = Option SimpleType} None (Some k) = h in cc)
+told (f ∷ fs) us k h =
+    (elim (bytes_eq us (field_spelling f.name)) as (λ (v : Bool). bytes_eq us (field_spelling f.name) ≡ v → cond v (Some f.kind) (field_kind fs us) ≡ Some k → HasField (f ∷ fs) us k) [
+      | true ↦ λ e g. record { place = 0; field = f; there = refl; spelled = (bytes_eq-Decides us (field_spelling f.name)).0 e; typed = (let q : f.kind ≡ k = cc in q) }
+      | false ↦ λ e g. let r = told fs us k g in record { place = suc r.place; field = r.field; there = r.there; spelled = r.spelled; typed = r.typed }
+    ]) refl h
+
+-- the names of some fields differ
+abbrev differ : List Field → Bool
+differ [] = true
+differ (f ∷ fs) = not (is_some (field_kind fs (field_spelling f.name))) && differ fs
+
+alone : (structure : Structure) → differ (fields_of structure) ≡ true
+unfolding fields_of field_spelling
+alone structures.MqlTradeRequest = refl
+alone structures.MqlTradeResult = refl
+alone structures.MqlTick = refl
+alone structures.MqlRates = refl
+alone structures.MqlDateTime = refl
+
+and_both : (a b : Bool) → (a && b) ≡ true → (a ≡ true) × (b ≡ true)
+and_both true b h = (refl, h)
+and_both false b h = absurd (let q : false ≡ true = h in cc)
+
+tells : (fs : List Field) (p : ℕ) (f : Field) (us : List ℕ) → differ fs ≡ true → slice_get fs p ≡ Some f → us ≡ field_spelling f.name → field_kind fs us ≡ Some f.kind
+tells [] p f us d h e = absurd (let q : ◌≡◌ {A = Option Field} None (Some f) = h in cc)
+tells (g ∷ fs) zero f us d h e =
+    let same : g ≡ f = cc in
+    let is = (bytes_eq-Decides us (field_spelling g.name)).1 (e ∙ ap (λ (x : Field). field_spelling x.name) (sym same)) in
+    ap (λ (b : Bool). cond b (Some g.kind) (field_kind fs us)) is ∙ ap (λ (x : Field). Some x.kind) same
+tells (g ∷ fs) (suc p) f us d h e =
+    let two = and_both (not (is_some (field_kind fs (field_spelling g.name)))) (differ fs) d in
+    let r = tells fs p f us two.1 h e in
+    (elim (bytes_eq us (field_spelling g.name)) as (λ (v : Bool). bytes_eq us (field_spelling g.name) ≡ v → cond v (Some g.kind) (field_kind fs us) ≡ Some f.kind) [
+      | true ↦ λ b.
+          let x : field_kind fs (field_spelling g.name) ≡ Some f.kind = ap (field_kind fs) (sym ((bytes_eq-Decides us (field_spelling g.name)).0 b)) ∙ r in
+          let y : false ≡ true = ap (λ (o : Option SimpleType). not (is_some o)) (sym x) ∙ two.0 in absurd (let q : false ≡ true = y in cc)
+      | false ↦ λ b. r
+    ]) refl
+
+-- a structure's field of a name has a type exactly where one of its fields has this name and this type
+pub by_field : (s : Structure) (us : List ℕ) (k : SimpleType) → (field_kind (fields_of s) us ≡ Some k) ↔ HasField (fields_of s) us k
+by_field s us k = (told (fields_of s) us k, λ r. tells (fields_of s) r.place r.field us (alone s) r.there r.spelled ∙ ap Some r.typed)
+""")
+    write("proofs/field/structures_have_fields/Answers.antt", """use Rattle.natives.proofs.StructureFields.{by_field}
+use Rattle.natives.proofs.field.structures_have_fields.Goals as goal
+
+pub returns : goal.returns
+returns c = by_field
+""")
     FIELD.proofs("field", "FieldNames")
     SUPPLIED.proofs("supplied", "SuppliedNames")
     PREDEFINEDS.proofs("predefined", "PredefinedNames")
@@ -1246,3 +1326,56 @@ abbrev pub predefined_kind : Predefined → SimpleType
 
 constants()
 types()
+
+
+# ---- the chapter for authors of experts
+
+
+def document():
+    out = ["""# Native functions, supplied types and constants
+
+What the language supplies to an expert, after the MQL5 Reference. `check` does not judge these names yet, and of the functions `quick` runs
+`Print` alone. `crates/natives` has the tables. This file is written by `tools/native_tables.py`.
+
+- `T name` is a value that is taken into the type T; `T name=d` may be left out; `T& name` is a variable of exactly this type, which the
+  function may change; `T[]` is an array, `any[]` of any type, `number[]` of any type of numbers, `like[]` of the type of the array
+  before it, or of numbers where that one is of numbers.
+- `common` is a number: where all arguments are integers they are taken into their common type, which is the result's, else into
+  `double`. `number` is taken into the type of the array's elements. `enum` is a value of an enumeration, `object` an object, `pointer` a
+  pointer, `variable&` a variable of any type but a class. `...` is any number of numbers, values of enumerations and strings.
+- `true` as a default is 1, a blank 32.
+- "Last error" lists the numbers to which a call that fails may set it: 4003 an argument out of range, 4301 no such symbol, 4401 too few
+  bars, 4753 no position selected, or it has gone, 4754 no order, 4755 no deal, 4756 the request is refused, 4807 no such indicator.
+  `ResetLastError` sets it to 0.
+
+## Functions
+
+They are numbered from 0 in this order.
+"""]
+    said = None
+    for k, n in enumerate(ALL):
+        if n.chapter != said:
+            said = n.chapter
+            out.append(f"\n### {said}\n\n| Number | Function | Last error |\n|---|---|---|\n")
+        short = f", short `{n.short}`" if n.short else ""
+        numbers = ", ".join(str(ERROR_NUMBERS[e]) for e in n.errors)
+        out.append(f"| {k} | `{n.result} {n.name}({n.inside})`{short} | {numbers} |\n")
+    out.append("\n## Structures\n\n")
+    for s, fs in FIELDS:
+        out.append(f"- `{s}`: " + ", ".join(f"`{k} {n}`" for k, n in fs) + "\n")
+    out.append("\nOther names of `int` are " + ", ".join(f"`{e}`" for e in NAMES_OF_INT.split()) + ".\n")
+    out.append("\n## Predefined names\n\n" + ", ".join(f"`{k} {n}`" for k, n in GIVEN) + ".\n")
+    out.append("\n## Constants\n\nThey are of type `int` where no other type stands; a color is red + 256 green + 65536 blue.\n")
+    said = None
+    for v, name, comment, kind, value in ROWS:
+        if comment != said:
+            said = comment
+            out.append(f"\n- {said}: ")
+        else:
+            out.append(", ")
+        shown = "92233720368.54775807" if kind == "double" else value
+        out.append(f"{'' if kind == 'int' else kind + ' '}`{name}` {shown}")
+    (ROOT / "docs" / "natives.md").write_text("".join(out) + "\n", encoding="utf-8")
+
+
+document()

@@ -1,1 +1,4 @@
+pub mod Constants
 pub mod Names
+pub mod Signatures
+pub mod Structures
