@@ -711,8 +711,8 @@ numbers_proof()
 
 
 def signatures():
-    write("specs/Signatures.antt", f"""-- What the native functions take and give (MQL5 Reference; the chapters stand below). One line is one function: where it
--- is answered, its result, its parameters in order, and what it may set the last error to.
+    write("specs/Signatures.antt", f"""-- What the native functions take and give (MQL5 Reference; the chapters stand below). One line is one
+-- function: where it is answered, its result, its parameters in order, and what it may set the last error to.
 use Rattle.std.specs.Prelude.{{ℕ, ◌+◌, ℤ, pos, negsuc, Bool, true, false, List, [], ◌∷◌, Some, None, is_some}}
 use Rattle.fx8.specs.declared.int_kind.IntKind.TheVariants as kind
 use Rattle.natives.specs.declared.types.SimpleType.{{SimpleType}}
@@ -991,6 +991,12 @@ def signature_lines():
         text = f"signature natives.{camel(n.name)} = {signature(n)}"
         if len(text) > 110:
             text = f"signature natives.{camel(n.name)} =\n    {signature(n)}"
+        if len(text.split("\n")[-1]) > 110:
+            head, rest, errors = re.fullmatch(r"(\w+ \S+ \S+) (.*) (\(.*?\)|\[\])", signature(n)).groups()
+            if len(rest) > 106:
+                cut = rest.rindex("∷", 0, 100)
+                rest = f"{rest[:cut + 1]}\n        {rest[cut + 2:]}"
+            text = f"signature natives.{camel(n.name)} =\n    {head}\n    {rest}\n    {errors}"
         out.append(text + "\n")
     return "".join(out)
 
@@ -1099,8 +1105,9 @@ use mql_spelling::is_spelled;
 {k} = constant.Integer kind.{k.capitalize()}
 
 """ for k in ("int", "uint", "long", "ulong", "color"))
-    write("specs/Constants.antt", f"""-- The named constants (MQL5 Reference, Standard Constants, Enumerations and Structures; the chapters stand below). The
--- numbers of the properties of accounts, symbols, positions, orders, deals and statistics are their places in the lists (own).
+    write("specs/Constants.antt", f"""-- The named constants (MQL5 Reference, Standard Constants, Enumerations and Structures; the chapters stand
+-- below). The numbers of the properties of accounts, symbols, positions, orders, deals and statistics are
+-- their places in the lists (own).
 use Rattle.std.specs.Prelude.{{ℕ, ℤ, pos, negsuc, List, codes, Option}}
 use Rattle.fx8.specs.declared.int_kind.IntKind.TheVariants as kind
 use Rattle.natives.specs.declared.types.ConstantValue.{{ConstantValue}}
@@ -1218,8 +1225,8 @@ pub fn structures_have_fields()
     for s, fs in FIELDS:
         lists += f"fields_of structures.{s} =\n"
         lists += "".join(f"    a_field fields.{camel(n)} {spec_simple(k)} ∷\n" for k, n in fs) + "    []\n"
-    write("specs/Structures.antt", f"""-- The supplied types with their fields, and the predefined names (MQL5 Reference, Standard Constants, Enumerations and
--- Structures, Structures of Data; Predefined Variables; Predefined Macro Substitutions).
+    write("specs/Structures.antt", f"""-- The supplied types with their fields, and the predefined names (MQL5 Reference, Standard Constants,
+-- Enumerations and Structures; Predefined Variables; Predefined Macro Substitutions).
 use Rattle.std.specs.Prelude.{{◌≡◌, ℕ, List, [], ◌∷◌, codes, Option, Some, None, slice_get, bytes_eq, if◌then◌else◌}}
 use Rattle.fx8.specs.declared.int_kind.IntKind.TheVariants as kind
 use Rattle.natives.specs.declared.types.SimpleType.{{SimpleType}}

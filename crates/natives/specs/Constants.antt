@@ -1,5 +1,6 @@
--- The named constants (MQL5 Reference, Standard Constants, Enumerations and Structures; the chapters stand below). The
--- numbers of the properties of accounts, symbols, positions, orders, deals and statistics are their places in the lists (own).
+-- The named constants (MQL5 Reference, Standard Constants, Enumerations and Structures; the chapters stand
+-- below). The numbers of the properties of accounts, symbols, positions, orders, deals and statistics are
+-- their places in the lists (own).
 use Rattle.std.specs.Prelude.{ℕ, ℤ, pos, negsuc, List, codes, Option}
 use Rattle.fx8.specs.declared.int_kind.IntKind.TheVariants as kind
 use Rattle.natives.specs.declared.types.ConstantValue.{ConstantValue}

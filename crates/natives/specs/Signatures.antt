@@ -1,5 +1,5 @@
--- What the native functions take and give (MQL5 Reference; the chapters stand below). One line is one function: where it
--- is answered, its result, its parameters in order, and what it may set the last error to.
+-- What the native functions take and give (MQL5 Reference; the chapters stand below). One line is one
+-- function: where it is answered, its result, its parameters in order, and what it may set the last error to.
 use Rattle.std.specs.Prelude.{ℕ, ◌+◌, ℤ, pos, negsuc, Bool, true, false, List, [], ◌∷◌, Some, None, is_some}
 use Rattle.fx8.specs.declared.int_kind.IntKind.TheVariants as kind
 use Rattle.natives.specs.declared.types.SimpleType.{SimpleType}
@@ -217,7 +217,10 @@ signature natives.ArrayResize =
 signature natives.ArrayFree = pure nothing (changed_array any ∷ []) (invalid ∷ [])
 signature natives.ArrayInitialize = pure (a int) (changed_array numbers ∷ number ∷ []) []
 signature natives.ArrayCopy =
-    pure (a int) (changed_array any ∷ array matching ∷ optional int (pos 0) ∷ optional int (pos 0) ∷ optional int (negsuc 0) ∷ []) (invalid ∷ [])
+    pure (a int)
+    (changed_array any ∷ array matching ∷ optional int (pos 0) ∷ optional int (pos 0) ∷
+    optional int (negsuc 0) ∷ [])
+    (invalid ∷ [])
 signature natives.ArraySetAsSeries = by_store (a bool) (changed_array any ∷ value bool ∷ []) []
 signature natives.ArrayGetAsSeries = by_store (a bool) (array any ∷ []) []
 signature natives.ArraySort = pure (a bool) (changed_array numbers ∷ []) []
@@ -288,26 +291,44 @@ signature natives.IVolume =
     by_world (a long) (value string ∷ value int ∷ value int ∷ []) (invalid ∷ symbol ∷ [])
 signature natives.Bars = by_world (a int) (value string ∷ value int ∷ []) (invalid ∷ symbol ∷ [])
 signature natives.CopyRates =
-    by_world (a int) (value string ∷ value int ∷ value int ∷ value int ∷ changed_array (structures MqlRates) ∷ []) (invalid ∷ symbol ∷ history ∷ [])
+    by_world (a int)
+    (value string ∷ value int ∷ value int ∷ value int ∷ changed_array (structures MqlRates) ∷ [])
+    (invalid ∷ symbol ∷ history ∷ [])
 signature natives.CopyTime =
-    by_world (a int) (value string ∷ value int ∷ value int ∷ value int ∷ changed_array (of datetime) ∷ []) (invalid ∷ symbol ∷ history ∷ [])
+    by_world (a int)
+    (value string ∷ value int ∷ value int ∷ value int ∷ changed_array (of datetime) ∷ [])
+    (invalid ∷ symbol ∷ history ∷ [])
 signature natives.CopyOpen =
-    by_world (a int) (value string ∷ value int ∷ value int ∷ value int ∷ changed_array (of double) ∷ []) (invalid ∷ symbol ∷ history ∷ [])
+    by_world (a int)
+    (value string ∷ value int ∷ value int ∷ value int ∷ changed_array (of double) ∷ [])
+    (invalid ∷ symbol ∷ history ∷ [])
 signature natives.CopyHigh =
-    by_world (a int) (value string ∷ value int ∷ value int ∷ value int ∷ changed_array (of double) ∷ []) (invalid ∷ symbol ∷ history ∷ [])
+    by_world (a int)
+    (value string ∷ value int ∷ value int ∷ value int ∷ changed_array (of double) ∷ [])
+    (invalid ∷ symbol ∷ history ∷ [])
 signature natives.CopyLow =
-    by_world (a int) (value string ∷ value int ∷ value int ∷ value int ∷ changed_array (of double) ∷ []) (invalid ∷ symbol ∷ history ∷ [])
+    by_world (a int)
+    (value string ∷ value int ∷ value int ∷ value int ∷ changed_array (of double) ∷ [])
+    (invalid ∷ symbol ∷ history ∷ [])
 signature natives.CopyClose =
-    by_world (a int) (value string ∷ value int ∷ value int ∷ value int ∷ changed_array (of double) ∷ []) (invalid ∷ symbol ∷ history ∷ [])
+    by_world (a int)
+    (value string ∷ value int ∷ value int ∷ value int ∷ changed_array (of double) ∷ [])
+    (invalid ∷ symbol ∷ history ∷ [])
 signature natives.CopyTickVolume =
-    by_world (a int) (value string ∷ value int ∷ value int ∷ value int ∷ changed_array (of long) ∷ []) (invalid ∷ symbol ∷ history ∷ [])
+    by_world (a int)
+    (value string ∷ value int ∷ value int ∷ value int ∷ changed_array (of long) ∷ [])
+    (invalid ∷ symbol ∷ history ∷ [])
 signature natives.IMA =
-    by_world (a int) (value string ∷ value int ∷ value int ∷ value int ∷ value int ∷ value int ∷ []) (invalid ∷ symbol ∷ [])
+    by_world (a int)
+    (value string ∷ value int ∷ value int ∷ value int ∷ value int ∷ value int ∷ [])
+    (invalid ∷ symbol ∷ [])
 signature natives.IATR = by_world (a int) (value string ∷ value int ∷ value int ∷ []) (invalid ∷ symbol ∷ [])
 signature natives.IRSI =
     by_world (a int) (value string ∷ value int ∷ value int ∷ value int ∷ []) (invalid ∷ symbol ∷ [])
 signature natives.CopyBuffer =
-    by_world (a int) (value int ∷ value int ∷ value int ∷ value int ∷ changed_array (of double) ∷ []) (invalid ∷ history ∷ handle ∷ [])
+    by_world (a int)
+    (value int ∷ value int ∷ value int ∷ value int ∷ changed_array (of double) ∷ [])
+    (invalid ∷ history ∷ handle ∷ [])
 signature natives.BarsCalculated = by_world (a int) (value int ∷ []) (handle ∷ [])
 -- Trade: MQL5 Reference, Trade Functions
 signature natives.OrderSend =

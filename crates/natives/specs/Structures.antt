@@ -1,5 +1,5 @@
--- The supplied types with their fields, and the predefined names (MQL5 Reference, Standard Constants, Enumerations and
--- Structures, Structures of Data; Predefined Variables; Predefined Macro Substitutions).
+-- The supplied types with their fields, and the predefined names (MQL5 Reference, Standard Constants,
+-- Enumerations and Structures; Predefined Variables; Predefined Macro Substitutions).
 use Rattle.std.specs.Prelude.{◌≡◌, ℕ, List, [], ◌∷◌, codes, Option, Some, None, slice_get, bytes_eq, if◌then◌else◌}
 use Rattle.fx8.specs.declared.int_kind.IntKind.TheVariants as kind
 use Rattle.natives.specs.declared.types.SimpleType.{SimpleType}
