@@ -1331,8 +1331,19 @@ returns c = by_field
     PREDEFINEDS.proofs("predefined", "PredefinedNames")
 
 
+def measures():
+    for module, name, over in (("field", "kind_in", "fields"), ("signatures", "least_of", "parameters"), ("signatures", "more_of", "parameters")):
+        write(f"proofs/{module}/+{name}/Invariants.antt", f"""use Rattle.std.proofs.Common.{{length}}
+use Rattle.natives.proofs.{module}.+{name}.Given as goal
+
+abbrev pub decreases-{name} : goal.decreases-{name}
+decreases-{name} l = length l.{over}.now
+""")
+
+
 constants()
 types()
+measures()
 
 
 # ---- the chapter for authors of experts
