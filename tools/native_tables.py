@@ -879,7 +879,7 @@ takes_more (p ∷ ps) = elim (is_rest p.kind) [ true ↦ true | false ↦ takes_
     consts = "".join(f"const {w}: Parameter = {r};{chr(10)}" for w, r in sorted(words.items()))
     answered = {"pure": "Pure", "store": "Store", "compiler": "Compiler", "world": "World"}
     write("src/signatures.rt", f"""//! The table of signatures.
-ghost use Rattle.std.specs.Prelude.{{◌≡◌}};
+ghost use Rattle.std.specs.Prelude.{{◌≡◌, ◌≤◌, length}};
 ghost use Rattle.natives.specs.Signatures.{{signature, least_arguments, takes_more}};
 
 use crate::native::Native;
@@ -893,7 +893,8 @@ use fx8::IntKind;
 /// The least number of arguments for some parameters.
 #[tactic(auto, unfolding(crate::specs::Signatures::least_arguments))]
 fn least_of(parameters: &[Parameter]) -> usize
-    ensures {{ result ≡ least_arguments parameters.now }}
+    ensures value {{ result ≡ least_arguments parameters.now }}
+    ensures at_most {{ result ≤ length parameters.now }}
 {{
     match parameters {{
         [] => 0,

@@ -1,5 +1,5 @@
 //! The table of signatures.
-ghost use Rattle.std.specs.Prelude.{◌≡◌};
+ghost use Rattle.std.specs.Prelude.{◌≡◌, ◌≤◌, length};
 ghost use Rattle.natives.specs.Signatures.{signature, least_arguments, takes_more};
 
 use crate::native::Native;
@@ -240,7 +240,8 @@ const USHORT: Parameter = Parameter {
 /// The least number of arguments for some parameters.
 #[tactic(auto, unfolding(crate::specs::Signatures::least_arguments))]
 fn least_of(parameters: &[Parameter]) -> usize
-    ensures { result ≡ least_arguments parameters.now }
+    ensures value { result ≡ least_arguments parameters.now }
+    ensures at_most { result ≤ length parameters.now }
 {
     match parameters {
         [] => 0,
