@@ -26,7 +26,7 @@ fn seen(name: &Text) -> Option<(u8, usize, usize)> {
 #[test]
 fn functions(rt: HostRuntime) -> Result<(), Fail> {
     let alloc: Global = rt.alloc();
-    let table = [
+    let table: [(&str, Option<(u8, usize, usize)>); 10] = [
         ("StringLen", Some((0, 1, 1))),
         ("StringSubstr", Some((1, 3, 2))),
         ("ArrayCopy", Some((26, 5, 2))),
@@ -40,19 +40,19 @@ fn functions(rt: HostRuntime) -> Result<(), Fail> {
     ];
     for (name, expected) in table {
         let name = units(alloc, name)?;
-        assert_eq!(seen(&name), expected);
+        assert_eq!(rt; seen(&name), expected);
     }
-    assert!(Native::Print.takes_more());
+    assert!(rt; Native::Print.takes_more());
     Ok(())
 }
 
 #[test]
 fn other_names(rt: HostRuntime) -> Result<(), Fail> {
     let alloc: Global = rt.alloc();
-    assert!(constant_named(units(alloc, "PERIOD_H4")?.as_slice()).is_some());
-    assert!(constant_named(units(alloc, "PERIOD_H2")?.as_slice()).is_none());
-    assert!(supplied_named(units(alloc, "MqlTick")?.as_slice()).is_some());
-    assert!(supplied_named(units(alloc, "ENUM_INIT_RETCODE")?.as_slice()).is_none());
-    assert!(predefined_named(units(alloc, "_Point")?.as_slice()).is_some());
+    assert!(rt; constant_named(units(alloc, "PERIOD_H4")?.as_slice()).is_some());
+    assert!(rt; constant_named(units(alloc, "PERIOD_H2")?.as_slice()).is_none());
+    assert!(rt; supplied_named(units(alloc, "MqlTick")?.as_slice()).is_some());
+    assert!(rt; supplied_named(units(alloc, "ENUM_INIT_RETCODE")?.as_slice()).is_none());
+    assert!(rt; predefined_named(units(alloc, "_Point")?.as_slice()).is_some());
     Ok(())
 }
