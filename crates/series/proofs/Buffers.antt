@@ -1,6 +1,6 @@
 -- One more value of a buffer.
-use Rattle.std.proofs.Common.{◌≡◌, ℕ, zero, suc, ◌+◌, List, [], ◌∷◌, ◌++◌, take, refl, sym, ap, ◌∙◌, arith, add-one}
-use Rattle.std.specs.Prelude.{ℤ, pos}
+use Rattle.std.proofs.Common.{◌≡◌, ℕ, zero, suc, ◌+◌, List, [], ◌∷◌, ◌++◌, take, ap, ◌∙◌, arith, add-one}
+use Rattle.std.specs.Prelude.{pos}
 use Rattle.market_types.specs.declared.bar.Bar.{Bar}
 use Rattle.indicators.specs.declared.kinds.Indicator.{Indicator}
 use Rattle.indicators.specs.Values.{told}

@@ -1,11 +1,10 @@
 -- The volumes of the bars of few quotes fit their types.
-use Rattle.std.proofs.Common.{◌≡◌, ℕ, suc, ◌+◌, ◌*◌, ◌/◌, ◌^◌, ◌<◌, ◌≤◌, List, [], ◌∷◌, map, length, ap, sym, subst, Bool, true, false, cond, arith}
+use Rattle.std.proofs.Common.{◌≡◌, ℕ, suc, ◌+◌, ◌*◌, ◌^◌, ◌<◌, ◌≤◌, List, [], ◌∷◌, length, Bool, true, false, cond, arith}
 use Rattle.std.specs.Prelude.{◌==◌, All, sum_by, count_by}
 use Rattle.std.specs.List.{AllByRecursion, filter}
 use Rattle.std.proofs.lemmas.List.Sums.{sum_by_from, sum_by-le, length-filter, count_by-le-length}
 use Rattle.std.proofs.lemmas.List.Elements.{All-cons, All-nil, All-map, All-from_recursion, recursion_from_All}
 use Rattle.market_types.specs.declared.quote.Quote.{Quote}
-use Rattle.market_types.specs.declared.bar.Bar.{Bar}
 use Rattle.market_types.specs.declared.period.Period.{Period}
 use Rattle.series.specs.Bars.{bars, Group, group, bar_of, opens, groups, grouped, lots, traded, of_symbol}
 use Rattle.series.specs.Pushed.{HasVolumes}

@@ -4,13 +4,13 @@ use Rattle.std.specs.Prelude.{◌==◌, ℤ, Option, Some, None, slice_get, slic
 use Rattle.std.specs.List.{fold}
 use Rattle.std.specs.Int.{int_max, int_min}
 use Rattle.std.proofs.lemmas.Grind.{common_steps}
-use Rattle.std.proofs.lemmas.List.{map-append, set_at, length_push, length-map, get_or-set_same, length-set}
+use Rattle.std.proofs.lemmas.List.{map-append, set_at, length_push, get_or-set_same, length-set}
 use Rattle.std.proofs.lemmas.List.Sums.{fold_push}
 use Rattle.market_types.specs.declared.quote.Quote.{Quote}
 use Rattle.market_types.specs.declared.bar.Bar.{Bar}
 use Rattle.market_types.specs.declared.period.Period.{Period}
-use Rattle.series.specs.Bars.{bars, newest_traded, Group, group, bar_of, opens, groups, grouped, lots, traded, last}
-use Rattle.series.specs.Pushed.{opened, grown, newest_of, where_belongs, with_quote, with_quote_in, HasVolumes, FitsWith}
+use Rattle.series.specs.Bars.{bars, newest_traded, Group, group, bar_of, opens, groups, grouped, lots, traded}
+use Rattle.series.specs.Pushed.{grown, newest_of, with_quote, with_quote_in, HasVolumes, FitsWith}
 use Rattle.series.specs.Stored.{History}
 use Rattle.series.specs.Stands.{history}
 
@@ -85,9 +85,13 @@ bars_is p d qs = refl
 bar_grows : (p : Period) (d : ℕ) (q f : Quote) (os : List Quote)
     → bar_of p d (group f (os ++ q ∷ [])) ≡ grown d (bar_of p d (group f os)) q (traded (group f os) + lots q)
 bar_grows p d q f os =
-    rw (fold_push (λ (high : ℤ) (r : Quote). int_max high r.bid) f.bid os q,
-    fold_push (λ (low : ℤ) (r : Quote). int_min low r.bid) f.bid os q, fold_push (λ (before r : Quote). r) f os q,
-    fold_push (λ (sum : ℕ) (r : Quote). sum + lots r) (lots f) os q, length_push os q) refl
+    rw (
+      fold_push (λ (high : ℤ) (r : Quote). int_max high r.bid) f.bid os q,
+      fold_push (λ (low : ℤ) (r : Quote). int_min low r.bid) f.bid os q,
+      fold_push (λ (before r : Quote). r) f os q,
+      fold_push (λ (sum : ℕ) (r : Quote). sum + lots r) (lots f) os q,
+      length_push os q,
+    ) refl
 
 at_length : {A : Type 0} (xs : List A) (x : A) → slice_get (xs ++ x ∷ []) (length xs) ≡ Some x
 at_length [] x = refl
@@ -108,16 +112,22 @@ behind : (p : Period) (d : ℕ) (q : Quote) (front : List Group) (g : Group) (b 
     ≡ with_quote_in p d q (of_groups p d (front ++ g ∷ [])) (cond b (Some (bar_of p d g)) None)
 behind p d q front g true e =
     let was : map (bar_of p d) (front ++ g ∷ []) ≡ map (bar_of p d) front ++ bar_of p d g ∷ [] = map-append (bar_of p d) front (g ∷ []) in
-    rw (map-append (bar_of p d) front (group g.first (g.others ++ q ∷ []) ∷ []),
-    fold_push (λ (before : ℕ) (h : Group). traded h) 0 front (group g.first (g.others ++ q ∷ [])), was,
-    fold_push (λ (before : ℕ) (h : Group). traded h) 0 front g,
-    last_set (map (bar_of p d) front) (bar_of p d g) (grown d (bar_of p d g) q (traded g + lots q)),
-    bar_grows p d q g.first g.others, fold_push (λ (sum : ℕ) (r : Quote). sum + lots r) (lots g.first) g.others q) refl
+    rw (
+      map-append (bar_of p d) front (group g.first (g.others ++ q ∷ []) ∷ []),
+      fold_push (λ (before : ℕ) (h : Group). traded h) 0 front (group g.first (g.others ++ q ∷ [])),
+      was,
+      fold_push (λ (before : ℕ) (h : Group). traded h) 0 front g,
+      last_set (map (bar_of p d) front) (bar_of p d g) (grown d (bar_of p d g) q (traded g + lots q)),
+      bar_grows p d q g.first g.others,
+      fold_push (λ (sum : ℕ) (r : Quote). sum + lots r) (lots g.first) g.others q,
+    ) refl
 behind p d q front g false e =
     let two : front ++ g ∷ group q [] ∷ [] ≡ (front ++ g ∷ []) ++ group q [] ∷ [] = sym (append_assoc front (g ∷ []) (group q [] ∷ [])) in
     ap (of_groups p d) two
-    ∙ rw (map-append (bar_of p d) (front ++ g ∷ []) (group q [] ∷ []),
-    fold_push (λ (before : ℕ) (h : Group). traded h) 0 (front ++ g ∷ []) (group q [])) refl
+    ∙ rw (
+      map-append (bar_of p d) (front ++ g ∷ []) (group q [] ∷ []),
+      fold_push (λ (before : ℕ) (h : Group). traded h) 0 (front ++ g ∷ []) (group q []),
+    ) refl
 
 -- the newest bar of groups, where the quote belongs to it
 newest_is : (p : Period) (d : ℕ) (q : Quote) (front : List Group) (g : Group)
@@ -140,8 +150,8 @@ unfolding with_quote
 groups_history p d q gs =
     split_last (λ xs. of_groups p d (with_last p q xs) ≡ with_quote p d q (of_groups p d xs)) refl
     (λ front g.
-      ap (of_groups p d) (at_end p q front g) ∙ behind p d q front g (opens p g.first == opens p q) refl
-      ∙ ap (with_quote_in p d q (of_groups p d (front ++ g ∷ []))) (sym (newest_is p d q front g)))
+    ap (of_groups p d) (at_end p q front g) ∙ behind p d q front g (opens p g.first == opens p q) refl
+    ∙ ap (with_quote_in p d q (of_groups p d (front ++ g ∷ []))) (sym (newest_is p d q front g)))
     gs
 
 -- one more quote in a history

@@ -1,19 +1,17 @@
 -- The quotes that a series stands for, before the first quote and with one more.
-use Rattle.std.proofs.Common.{◌≡◌, ℕ, zero, suc, ◌+◌, ◌<◌, ◌≢◌, List, [], ◌∷◌, ◌++◌, map, length, get_or, set, refl, sym, ap, ◌∙◌, Bool, true, false, cond, subst, append-nil, arith}
-use Rattle.std.specs.Prelude.{◌==◌, All, slice_get, Result, Ok, Err, OnOk, OnErr}
-use Rattle.std.specs.List.{filter}
+use Rattle.std.proofs.Common.{◌≡◌, ℕ, zero, suc, ◌<◌, ◌≢◌, List, [], ◌∷◌, ◌++◌, map, length, get_or, set, refl, sym, ap, ◌∙◌, Bool, true, false, cond, subst, append-nil, arith}
+use Rattle.std.specs.Prelude.{◌==◌, slice_get, Result, Ok, Err, OnOk, OnErr}
 use Rattle.std.proofs.lemmas.Grind.{common_steps}
 use Rattle.std.proofs.lemmas.List.{get_or-set_same, get_or-set_other, length-set, length-map, get_or_default}
 use Rattle.std.proofs.lemmas.List.Elements.{filter-append}
 use Rattle.market_types.specs.declared.quote.Quote.{Quote}
-use Rattle.market_types.specs.declared.bar.Bar.{Bar}
 use Rattle.market_types.specs.declared.symbol_spec.SymbolSpec.{SymbolSpec}
 use Rattle.market_types.specs.declared.period.Period.{Period}
 use Rattle.market_types.specs.declared.period.Period.TheVariants as period
 use Rattle.series.specs.Bars.{bars, newest_traded, of_symbol, bars_at}
 use Rattle.series.specs.Pushed.{with_quote}
 use Rattle.series.specs.Stored.{History, Histories}
-use Rattle.series.specs.Symbols.{of_period, without_bars, with_quote_each, FitEach}
+use Rattle.series.specs.Symbols.{without_bars, with_quote_each, FitEach}
 use Rattle.series.specs.Filled.{bars_of, kept_bars}
 use Rattle.series.specs.Stands.{history, AreHistories, HaveVolumes}
 use Rattle.series.specs.Laws.{QuotesDecide}
@@ -87,18 +85,18 @@ own_quotes quotes q =
 at_symbol : (symbols : List Histories) (q : Quote) (quotes : List Quote) (first : Histories) → q.symbol < length symbols
     → Stand symbols quotes → (symbol : ℕ) (none : Histories) → symbol < length symbols → (b : Bool) → (q.symbol == symbol) ≡ b
     → AreHistories (get_or (set symbols q.symbol (with_quote_each q (get_or symbols q.symbol first))) symbol none)
-        (of_symbol symbol quotes ++ cond b (q ∷ []) [])
+    (of_symbol symbol quotes ++ cond b (q ∷ []) [])
 at_symbol symbols q quotes first within stand symbol none here true e =
     let is : q.symbol ≡ symbol = same_symbol q.symbol symbol e in
     let g : Histories = with_quote_each q (get_or symbols q.symbol first) in
     subst (λ (k : ℕ). AreHistories (get_or (set symbols q.symbol g) k none) (of_symbol k quotes ++ q ∷ [])) is
     (subst (λ (s : Histories). AreHistories s (of_symbol q.symbol quotes ++ q ∷ [])) (sym (get_or-set_same symbols q.symbol g none within))
-      (each_stands q (get_or symbols q.symbol first) (of_symbol q.symbol quotes) (stand q.symbol first within)))
+    (each_stands q (get_or symbols q.symbol first) (of_symbol q.symbol quotes) (stand q.symbol first within)))
 at_symbol symbols q quotes first within stand symbol none here false e =
     let g : Histories = with_quote_each q (get_or symbols q.symbol first) in
     subst (λ (qs : List Quote). AreHistories (get_or (set symbols q.symbol g) symbol none) qs) (sym (append-nil (of_symbol symbol quotes)))
     (subst (λ (s : Histories). AreHistories s (of_symbol symbol quotes)) (sym (get_or-set_other symbols q.symbol symbol g none (other_symbol q.symbol symbol e)))
-      (stand symbol none here))
+    (stand symbol none here))
 
 -- with one more quote
 pub pushed_stand : (symbols : List Histories) (q : Quote) (quotes : List Quote) (first : Histories) → q.symbol < length symbols

@@ -1,9 +1,8 @@
 -- What a series answers (MQL5 Reference, CopyRates, CopyBuffer, iMA, iATR, iRSI).
-use Rattle.std.specs.Prelude.{◌≡◌, ℕ, zero, suc, ◌+◌, ◌-◌, ◌==◌, nat_lt, Bool, ◌&&◌, ℤ, pos, List, [], ◌∷◌, ◌++◌, length, take, drop, Option, Some, None, Result, Ok, Err, if◌then◌else◌, slice_get, position}
+use Rattle.std.specs.Prelude.{◌≡◌, ℕ, zero, suc, ◌+◌, ◌-◌, ◌==◌, nat_lt, Bool, ◌&&◌, ℤ, pos, List, [], ◌∷◌, ◌++◌, length, take, drop, Option, Some, None, Result, Ok, Err, if◌then◌else◌, position}
 use Rattle.market_types.specs.Words.{period_seconds}
 use Rattle.market_types.specs.declared.bar.Bar.{Bar}
 use Rattle.market_types.specs.declared.quote.Quote.{Quote}
-use Rattle.market_types.specs.declared.period.Period.{Period}
 use Rattle.indicators.specs.Averages.{newest}
 use Rattle.indicators.specs.Values.{told, indicator_of}
 use Rattle.indicators.specs.declared.kinds.Indicator.{Indicator}
@@ -11,7 +10,7 @@ use Rattle.indicators.specs.declared.indicator_spec.IndicatorSpec.{IndicatorSpec
 use Rattle.series.specs.declared.fault.SeriesFault.{SeriesFault}
 use Rattle.series.specs.declared.fault.SeriesFault.TheVariants as fault
 use Rattle.series.specs.declared.held.Held.{Held}
-use Rattle.series.specs.Bars.{all_bars, told_bars, most_told}
+use Rattle.series.specs.Bars.{all_bars, most_told}
 use Rattle.series.specs.Stands.{Kept}
 
 -- so many items, the last of which has `start` items behind it; the oldest first

@@ -1,7 +1,7 @@
 -- The bars that quotes make (MQL5 Reference, Timeseries and Indicators Access, structure MqlRates; MetaTrader 5
 -- Help, Strategy Tester: bars are built by Bid).
 use Rattle.std.specs.Prelude.{ℕ, ◌+◌, ◌-◌, ◌*◌, ◌/◌, ◌^◌, ◌==◌, min, ℤ, pos, unsigned_abs, List, [], ◌∷◌, length, map, Option, Some, None, if◌then◌else◌, slice_get}
-use Rattle.std.specs.List.{fold, filter, sum_by}
+use Rattle.std.specs.List.{fold, filter}
 use Rattle.std.specs.Int.{int_max, int_min}
 use Rattle.market_types.specs.Words.{period_seconds}
 use Rattle.market_types.specs.declared.bar.Bar.{Bar}

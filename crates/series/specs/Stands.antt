@@ -1,6 +1,5 @@
 -- What a series keeps, and the quotes that it stands for.
-use Rattle.std.specs.Prelude.{◌≡◌, ◌<◌, ◌+◌, ◌^◌, ◌≤◌, ℕ, List, All, length, map, slice_index_or}
-use Rattle.market_types.specs.declared.bar.Bar.{Bar}
+use Rattle.std.specs.Prelude.{◌≡◌, ◌<◌, ◌≤◌, ℕ, List, All, length, map, slice_index_or}
 use Rattle.market_types.specs.declared.quote.Quote.{Quote}
 use Rattle.market_types.specs.declared.period.Period.{Period}
 use Rattle.indicators.specs.Values.{IsIndicator}

@@ -1,11 +1,11 @@
 -- The bars of one symbol in each period.
-use Rattle.std.specs.Prelude.{◌≡◌, ◌≤◌, ℕ, List, [], length}
+use Rattle.std.specs.Prelude.{◌≤◌, ℕ, []}
 use Rattle.market_types.specs.declared.quote.Quote.{Quote}
 use Rattle.market_types.specs.declared.period.Period.{Period}
 use Rattle.market_types.specs.declared.period.Period.TheVariants as period
 use Rattle.series.specs.declared.symbol_bars.SymbolBars.{SymbolBars}
 use Rattle.series.specs.Pushed.{with_quote, newest_of, FitsWith}
-use Rattle.series.specs.Stored.{History, Histories, Stored, history_of}
+use Rattle.series.specs.Stored.{History, Histories, history_of}
 
 -- what is kept of a symbol
 abbrev pub histories : SymbolBars → Histories

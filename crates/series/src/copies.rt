@@ -74,6 +74,12 @@ pub(crate) fn copy_values(
         return Err(SeriesFault::NotEnough(told as u32));
     }
     let (_, seen) = bars.split_at(bars.len().min(held.first as usize));
-    *out = values(alloc, &held.indicator, seen, seen.len().saturating_sub(wanted), count)?;
+    *out = values(
+        alloc,
+        &held.indicator,
+        seen,
+        seen.len().saturating_sub(wanted),
+        count,
+    )?;
     Ok(())
 }

@@ -60,7 +60,7 @@ fn take(symbols: &mut Vec<SymbolBars>, quote: &Quote) -> Result<(), OutOfMemory>
     requires volumes { (none : Histories) → FitEach quote.now (slice_index_or (map histories symbols.old.items) quote.now.symbol none) }
     ensures taken { OnOk result ((none : Histories) → map histories symbols.new.items
         ≡ slice_set (map histories symbols.old.items) quote.now.symbol
-            (with_quote_each quote.now (slice_index_or (map histories symbols.old.items) quote.now.symbol none))) }
+        (with_quote_each quote.now (slice_index_or (map histories symbols.old.items) quote.now.symbol none))) }
     ensures refused { OnErr result (map histories symbols.new.items ≡ map histories symbols.old.items) }
 {
     let bars = &mut symbols[quote.symbol as usize];
@@ -164,7 +164,10 @@ impl Series {
     fn number_of(&self, spec: &IndicatorSpec) -> Option<usize>
         ensures { result ≡ number_of spec.now self.now.held }
     {
-        self.held.as_slice().iter().position(|held| is_same(&held.spec, spec))
+        self.held
+            .as_slice()
+            .iter()
+            .position(|held| is_same(&held.spec, spec))
     }
 
     /// The indicator that is meant; `None` exactly where its symbol is not there or a number is out of range.
@@ -184,7 +187,7 @@ impl Series {
     pub fn indicator(&mut self, spec: IndicatorSpec) -> Result<u32, SeriesFault>
         ensures { (quotes : List Quote) → StandsFor self.old quotes
             → Numbers (asked (judged (digits self.old) spec) spec (bars_before (digits self.old) spec quotes) self.old.held)
-                self.old result self.new }
+            self.old result self.new }
     {
         let Some(indicator) = self.judged(&spec) else {
             return Err(SeriesFault::BadSpec);

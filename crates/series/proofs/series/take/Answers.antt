@@ -1,4 +1,4 @@
-use Rattle.std.proofs.Common.{◌≡◌, List, map, set, ap, sym, ◌∙◌, subst}
+use Rattle.std.proofs.Common.{map, set, ap, sym, ◌∙◌, subst}
 use Rattle.series.specs.Stored.{Histories}
 use Rattle.series.specs.Symbols.{histories, with_quote_each, FitEach}
 use Rattle.series.proofs.Standing.{shown_at, shown_same, map_set, on_err}
@@ -8,7 +8,7 @@ pub returns-in_err-reserve-clause-refused : goal.returns-in_err-reserve-clause-r
 returns-in_err-reserve-clause-refused c =
     on_err c.from_residual.result _
     (shown_same histories c.args.symbols.now.items c.args.quote.now.symbol c.reserve.new.self c.index_mut-bars.result.now
-      c.index_mut-bars.ensures.value c.in_err-reserve.ensures.same)
+    c.index_mut-bars.ensures.value c.in_err-reserve.ensures.same)
 
 pub take-requires-clause-volumes : goal.take-requires-clause-volumes
 take-requires-clause-volumes c =

@@ -14,5 +14,5 @@ returns c = λ quotes stand.
     subst (λ (o : Option Held). Fills (buffered_at (digits s) o c.args.start c.args.count quotes) c.args.out.now c.copy_values.result c.copy_values.new.out)
     (c.in-Some.ensures.value ∙ ap (λ (k : Kept). slice_get k.held c.args.number) c.self.view_is)
     (subst (λ (bars : List Bar). Fills (buffered h c.args.start c.args.count bars) c.args.out.now c.copy_values.result c.copy_values.new.out)
-      (c.all-bars.ensures.value ∙ kept_stand h.spec.period s.symbols h.spec.symbol quotes stand)
-      c.copy_values.ensures)
+    (c.all-bars.ensures.value ∙ kept_stand h.spec.period s.symbols h.spec.symbol quotes stand)
+    c.copy_values.ensures)

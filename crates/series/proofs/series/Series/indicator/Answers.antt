@@ -1,4 +1,4 @@
-use Rattle.std.proofs.Common.{◌≡◌, ◌-◌, List, map, length, ap, sym, ◌∙◌}
+use Rattle.std.proofs.Common.{◌-◌, List, map, length, ap, sym, ◌∙◌}
 use Rattle.market_types.specs.declared.bar.Bar.{Bar}
 use Rattle.series.specs.Bars.{most_told}
 use Rattle.series.specs.Symbols.{histories}

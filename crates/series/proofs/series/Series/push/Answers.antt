@@ -1,5 +1,4 @@
-use Rattle.std.proofs.Common.{◌≡◌, ◌<◌, List, map, length, get_or, ap, sym, ◌∙◌, subst}
-use Rattle.market_types.specs.declared.quote.Quote.{Quote}
+use Rattle.std.proofs.Common.{◌<◌, List, map, length, get_or, ap, sym, ◌∙◌, subst}
 use Rattle.series.specs.Stored.{Histories}
 use Rattle.series.specs.Symbols.{histories, FitEach}
 use Rattle.series.specs.Stands.{Kept, StandsFor, digits}
