@@ -1,0 +1,3 @@
+pub mod Loops
+pub mod Nearest
+pub mod Windows
