@@ -1,0 +1,4 @@
+pub mod Conserved
+pub mod Keys
+pub mod Places
+pub mod Samples

@@ -1,0 +1,20 @@
+//! The account: what happens to it, and what is read off that.
+#![tactic(auto)]
+
+mod account_spec;
+mod deal;
+mod event;
+mod laws;
+mod order;
+mod position;
+mod prices;
+mod stats;
+
+pub use account_spec::AccountSpec;
+pub use deal::{Deal, DealEntry, DealKind, DealList, DealReason};
+pub use event::{Event, EventList, RemovalCause};
+pub use laws::{balance_is_sums, volumes_are_sums};
+pub use order::{Order, OrderKind, OrderTime};
+pub use position::Position;
+pub use prices::Prices;
+pub use stats::Stats;
