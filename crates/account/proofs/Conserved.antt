@@ -76,7 +76,7 @@ after-deal-volume d None = omega (arith, ints)
 after-deal-volume d (Some p) = dealt-volume d p
 
 -- a change of a position that keeps its ticket, its side and its volume
-quiet-key : (f : Position → Position) (u : ℕ) (o : Option Position) → ((p : Position) → (f p).ticket ≡ p.ticket) → KeyIs position_ticket u o → KeyIs position_ticket u (option_map f o)
+pub quiet-key : (f : Position → Position) (u : ℕ) (o : Option Position) → ((p : Position) → (f p).ticket ≡ p.ticket) → KeyIs position_ticket u o → KeyIs position_ticket u (option_map f o)
 quiet-key f u None e k = tt
 quiet-key f u (Some p) e k = e p ∙ k
 

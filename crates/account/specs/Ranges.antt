@@ -1,5 +1,5 @@
 -- The ranges of an account's numbers, and what keeps sums within their types.
-use Rattle.std.specs.Prelude.{◌≡◌, ℕ, ◌≤◌, ◌<◌, List, All, length, ⊤, IfSome, FitsSigned, pos, ◌≤ℤ◌, ◌<ℤ◌}
+use Rattle.std.specs.Prelude.{◌≡◌, ℕ, ◌≤◌, ◌<◌, false, List, length, All, MatchBool, Option, IfSome, is_none, ⊤, FitsSigned, ℤ, pos, ◌≤ℤ◌, ◌<ℤ◌, ◌+ℤ◌}
 use Rattle.std.specs.Int.{w64, w128}
 use Rattle.market_types.specs.Ranges.{IsSpec}
 use Rattle.account.specs.declared.account_spec.AccountSpec.{AccountSpec}
@@ -9,7 +9,7 @@ use Rattle.account.specs.declared.event.Event.{Event}
 use Rattle.account.specs.declared.event.Event.TheVariants as event
 use Rattle.account.specs.Keyed.{item}
 use Rattle.account.specs.Deals.{total, net, balance, trading_deals}
-use Rattle.account.specs.Positions.{position_ticket}
+use Rattle.account.specs.Positions.{position_ticket, open_positions, is_balance, dealt, after_deal}
 use Rattle.account.specs.Statistics.{gain, loss, balance_path}
 use Rattle.account.specs.StopOut.{margin_of}
 
@@ -28,6 +28,28 @@ pub record IsHeld (p : Position) : Type 0 where
   pub volume : FitsSigned w64 p.volume
   pub price : FitsSigned w64 p.price
   pub swap : FitsSigned w128 p.swap
+
+-- a position keeps the types of its numbers before and after a deal
+abbrev pub MayDeal : Deal → Option Position → Type 0
+MayDeal d o = IfSome o IsHeld × IfSome (after_deal d o) IsHeld
+
+-- a position that a deal does not close, and that keeps its types
+pub record MayChange (d : Deal) (p : Position) : Type 0 where
+  pub was : IsHeld p
+  pub left : is_none (dealt d p) ≡ false
+  pub held : IfSome (dealt d p) IsHeld
+
+-- what an event leaves of its position keeps the types of its numbers
+abbrev pub KeepsTypes : List Position → Event → Type 0
+KeepsTypes ps (event.Added d) =
+    MatchBool (is_balance d.kind) ⊤ (MayDeal d (item position_ticket d.position ps))
+KeepsTypes ps (event.Swap t amount) =
+    IfSome (item position_ticket t ps) (λ p. FitsSigned w128 (p.swap +ℤ amount))
+KeepsTypes ps (event.Placed o) = ⊤
+KeepsTypes ps (event.Modified o) = ⊤
+KeepsTypes ps (event.Removed t cause) = ⊤
+KeepsTypes ps (event.Triggered t) = ⊤
+KeepsTypes ps (event.Stops t sl tp) = ⊤
 
 -- a symbol of the list
 abbrev pub IsSymbol : AccountSpec → ℕ → Type 0

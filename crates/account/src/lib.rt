@@ -5,6 +5,8 @@ mod account_spec;
 mod deal;
 mod event;
 mod laws;
+mod money;
+mod open_positions;
 mod order;
 mod position;
 mod prices;
@@ -14,6 +16,9 @@ pub use account_spec::AccountSpec;
 pub use deal::{Deal, DealEntry, DealKind, DealList, DealReason};
 pub use event::{Event, EventList, RemovalCause};
 pub use laws::{balance_is_sums, volumes_are_sums};
+pub use open_positions::{
+    apply_deal, apply_stops, apply_swap, is_balance, is_buy, is_closed_by, look_up, same_side,
+};
 pub use order::{Order, OrderKind, OrderTime};
 pub use position::Position;
 pub use prices::Prices;
