@@ -6,3 +6,4 @@ pub mod Products
 pub mod Samples
 pub mod Scaling
 pub mod Steps
+pub mod Running

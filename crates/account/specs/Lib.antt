@@ -9,3 +9,4 @@ pub mod Positions
 pub mod Ranges
 pub mod Statistics
 pub mod StopOut
+pub mod Totals

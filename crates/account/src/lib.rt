@@ -2,6 +2,7 @@
 #![tactic(auto)]
 
 mod account_spec;
+mod copies;
 mod deal;
 mod event;
 mod laws;
@@ -11,8 +12,10 @@ mod order;
 mod position;
 mod prices;
 mod stats;
+mod totals;
 
 pub use account_spec::AccountSpec;
+pub use copies::{copy_deal, copy_text};
 pub use deal::{Deal, DealEntry, DealKind, DealList, DealReason};
 pub use event::{Event, EventList, RemovalCause};
 pub use laws::{balance_is_sums, volumes_are_sums};
