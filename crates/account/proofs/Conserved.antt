@@ -127,7 +127,7 @@ net_of None = pos 0
 net_of (Some d) = net d
 
 -- the balance is all profits, swaps and commissions
-sums : (ds : List Deal) → total net ds ≡ total profit_of ds +ℤ total swap_of ds +ℤ total commission_of ds
+pub sums : (ds : List Deal) → total net ds ≡ total profit_of ds +ℤ total swap_of ds +ℤ total commission_of ds
 unfolding net
 sums [] = refl
 sums (d ∷ ds) = omega (arith, ints, sums ds)

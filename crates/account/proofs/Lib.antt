@@ -7,3 +7,4 @@ pub mod Samples
 pub mod Scaling
 pub mod Steps
 pub mod Running
+pub mod Kept

@@ -14,7 +14,7 @@ use Rattle.account.proofs.Conserved.{total-append}
 total-more : {X : Type 0} (f : X → ℤ) (xs : List X) (x : X) → total f (xs ++ x ∷ []) ≡ total f xs +ℤ f x
 total-more f xs x = total-append f xs (x ∷ []) ∙ ap (λ z. total f xs +ℤ z) (omega (arith, ints))
 
-length-more : {X : Type 0} (xs : List X) (x : X) → length (xs ++ x ∷ []) ≡ length xs + 1
+pub length-more : {X : Type 0} (xs : List X) (x : X) → length (xs ++ x ∷ []) ≡ length xs + 1
 length-more [] x = refl
 length-more (y ∷ xs) x = let e : length (xs ++ x ∷ []) ≡ length xs + 1 = length-more xs x in omega (arith, e)
 

@@ -10,3 +10,4 @@ pub mod Ranges
 pub mod Statistics
 pub mod StopOut
 pub mod Totals
+pub mod Books
