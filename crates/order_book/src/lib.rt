@@ -1,0 +1,12 @@
+//! The book of pending orders: those in force, which of them a quote fires, and which expire.
+#![tactic(auto)]
+
+mod book_fault;
+mod orders;
+mod sorted;
+mod steps;
+mod terms;
+
+pub use book_fault::BookFault;
+pub use orders::Orders;
+pub use steps::Steps;
