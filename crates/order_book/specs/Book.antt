@@ -1,13 +1,14 @@
 -- The book of pending orders: what it holds at most, and when a call is refused (limits own; MQL5
 -- Reference, Trade Server Return Codes, TRADE_RETCODE_NO_CHANGES).
-use Rattle.std.specs.Prelude.{ℕ, ◌≡◌, ◌<◌, ◌≤◌, ◌&&◌, ◌==◌, if◌then◌else◌, Bool, true, false, length, List, Option, Some, None, Result, Ok, Err}
+use Rattle.std.specs.Prelude.{ℕ, ◌≡◌, ◌<◌, ◌≤◌, ◌&&◌, ◌==◌, if◌then◌else◌, Bool, true, false, length, slice_get, slice_set, List, [], ◌∷◌, ◌++◌, Option, Some, None, Result, Ok, Err}
 use Rattle.std.specs.Ordering.{int_eq}
 use Rattle.account.specs.declared.order.Order.{Order}
 use Rattle.account.specs.declared.order.OrderTime.{OrderTime}
 use Rattle.account.specs.declared.order.OrderTime.TheVariants as time
+use Rattle.account.specs.declared.event.Event.{Event}
 use Rattle.account.specs.declared.event.Event.TheVariants as event
 use Rattle.account.specs.Keyed.{item, Rising}
-use Rattle.account.specs.Orders.{order_ticket, orders_after}
+use Rattle.account.specs.Orders.{order_ticket, orders_after, orders_in_force}
 use Rattle.order_book.specs.declared.book_fault.BookFault.{BookFault}
 use Rattle.order_book.specs.declared.book_fault.BookFault.TheVariants as fault
 
@@ -59,3 +60,11 @@ IsPlaced os o (Err fault.NoChanges) after = ⊥
 abbrev pub IsModified : List Order → Order → Result (Unit {0}) BookFault → List Order → Type 0
 IsModified os new (Ok _) after = (modify_fault os new ≡ None) × (after ≡ orders_after os (event.Modified new))
 IsModified os new (Err e) after = (modify_fault os new ≡ Some e) × (after ≡ os)
+
+-- the order at a place is changed, and no other
+abbrev pub ChangesAt : (Order → Order) → ℕ → List Order → List Order → Type 0
+ChangesAt change i os after = (o : Order) → slice_get os i ≡ Some o → after ≡ slice_set os i (change o)
+
+-- the orders in force go on event by event: the step that a call makes is that of the event it stands for
+abbrev pub GoesOn : Type 0
+GoesOn = (events : List Event) (e : Event) → orders_in_force (events ++ e ∷ []) ≡ orders_after (orders_in_force events) e

@@ -2,11 +2,13 @@
 #![tactic(auto)]
 
 mod book_fault;
+mod laws;
 mod orders;
 mod sorted;
 mod steps;
 mod terms;
 
 pub use book_fault::BookFault;
+pub use laws::orders_go_on;
 pub use orders::Orders;
 pub use steps::Steps;

@@ -1,5 +1,5 @@
 //! The orders in force.
-ghost use Rattle.std.specs.Prelude.{◌≡◌, ◌≤◌, ◌+◌, ◌++◌, [], length, slice_get, None, is_some};
+ghost use Rattle.std.specs.Prelude.{◌≡◌, ◌≤◌, ◌+◌, ◌++◌, [], length, slice_get, None, IfNone, is_some, false};
 ghost use Rattle.std.specs.Option.{option_copied};
 ghost use Rattle.account.specs.declared.event.Event.TheVariants as event;
 ghost use Rattle.account.specs.declared.event.RemovalCause.{RemovalCause};
@@ -90,6 +90,7 @@ impl Orders {
     pub fn remove(&mut self, ticket: u64) -> Option<Order>
         ensures value { result ≡ item order_ticket ticket self.old }
         ensures rest { (cause : RemovalCause) → self.new ≡ orders_after self.old (event.Removed ticket cause) }
+        ensures missing { IfNone result (self.new ≡ self.old) }
     {
         sorted::remove(&mut self.orders, ticket)
     }
@@ -99,6 +100,7 @@ impl Orders {
     pub fn trigger(&mut self, ticket: u64) -> bool
         ensures value { result ≡ is_some (item order_ticket ticket self.old) }
         ensures rest { self.new ≡ orders_after self.old (event.Triggered ticket) }
+        ensures missing { result ≡ false → self.new ≡ self.old }
     {
         sorted::trigger(&mut self.orders, ticket)
     }
@@ -106,7 +108,7 @@ impl Orders {
     /// Adds the tickets of the orders whose time is over at a second, in the order of the tickets, into the
     /// room.
     pub fn expired(&self, time: i64, out: &mut Tickets)
-        requires room { 1000 ≤ out.old.spare }
+        requires room { most_orders ≤ out.old.spare }
         ensures items { out.new.items ≡ out.old.items ++ expired_orders time self.now }
         ensures room { out.new.spare + length out.new.items ≡ out.old.spare + length out.old.items }
     {
@@ -122,7 +124,7 @@ impl Orders {
     /// Adds the tickets of the orders that a quote fires, in the order of the tickets, into the room. It
     /// counts a step for each order that it looks at.
     pub fn fired<L: Ledger>(&self, quote: &Quote, out: &mut Tickets, steps: &mut Steps<L>)
-        requires room { 1000 ≤ out.old.spare }
+        requires room { most_orders ≤ out.old.spare }
         ensures items { out.new.items ≡ out.old.items ++ fired_orders quote.now self.now }
         ensures room { out.new.spare + length out.new.items ≡ out.old.spare + length out.old.items }
         ensures counted { steps.old ≤ steps.new }

@@ -1,12 +1,12 @@
 //! Orders in a list by rising ticket.
-ghost use Rattle.std.specs.Prelude.{◌≡◌, ◌≤◌, ◌<◌, length, slice_get, slice_set, Some, None, IfSome, is_some};
+ghost use Rattle.std.specs.Prelude.{◌≡◌, ◌≤◌, ◌<◌, length, slice_get, Some, None, IfSome, IfNone, is_some, false};
 ghost use Rattle.std.specs.Vec.{vec_len, vec_capacity};
 ghost use Rattle.std.specs.List.{insert};
 ghost use Rattle.std.specs.Option.{option_copied};
 ghost use Rattle.account.specs.declared.event.Event.TheVariants as event;
 ghost use Rattle.account.specs.Keyed.{item, put, lower, found, Rising};
 ghost use Rattle.account.specs.Orders.{order_ticket, changed, triggered, orders_after};
-ghost use Rattle.order_book.specs.Book.{most_orders, IsBook, IsPlaced, IsModified};
+ghost use Rattle.order_book.specs.Book.{most_orders, IsBook, IsPlaced, IsModified, ChangesAt};
 
 use crate::book_fault::BookFault;
 use crate::terms::{self, same_terms};
@@ -108,6 +108,7 @@ pub fn remove(orders: &mut Vec<Order>, ticket: u64) -> Option<Order>
     requires { IsBook orders.old.items }
     ensures value { result ≡ item order_ticket ticket orders.old.items }
     ensures items { orders.new.items ≡ put order_ticket ticket None orders.old.items }
+    ensures missing { IfNone result (orders.new.items ≡ orders.old.items) }
     ensures book { IsBook orders.new.items }
 {
     match found(orders, ticket) {
@@ -118,7 +119,7 @@ pub fn remove(orders: &mut Vec<Order>, ticket: u64) -> Option<Order>
 
 fn change_at(orders: &mut Vec<Order>, i: usize, new: &Order)
     requires { i < length orders.old.items }
-    ensures { (o : _) → slice_get orders.old.items i ≡ Some o → orders.new.items ≡ slice_set orders.old.items i (changed new.now o) }
+    ensures { ChangesAt (changed new.now) i orders.old.items orders.new.items }
 {
     terms::change(&mut orders[i], new);
 }
@@ -143,7 +144,7 @@ pub fn modify(orders: &mut Vec<Order>, order: &Order) -> Result<(), BookFault>
 
 fn trigger_at(orders: &mut Vec<Order>, i: usize)
     requires { i < length orders.old.items }
-    ensures { (o : _) → slice_get orders.old.items i ≡ Some o → orders.new.items ≡ slice_set orders.old.items i (triggered o) }
+    ensures { ChangesAt triggered i orders.old.items orders.new.items }
 {
     terms::trigger(&mut orders[i]);
 }
@@ -153,6 +154,7 @@ pub fn trigger(orders: &mut Vec<Order>, ticket: u64) -> bool
     requires { IsBook orders.old.items }
     ensures value { result ≡ is_some (item order_ticket ticket orders.old.items) }
     ensures items { orders.new.items ≡ orders_after orders.old.items (event.Triggered ticket) }
+    ensures missing { result ≡ false → orders.new.items ≡ orders.old.items }
     ensures book { IsBook orders.new.items }
 {
     match found(orders, ticket) {
