@@ -17,19 +17,11 @@ const MOST_ORDERS: usize = 1_000;
 
 /// How many orders have lower tickets.
 fn lower(orders: &[Order], ticket: u64) -> usize
+    requires { Rising order_ticket orders.now }
     ensures value { result ≡ lower order_ticket ticket orders.now }
     ensures within { result ≤ length orders.now }
 {
-    let mut rest = orders;
-    let mut count = 0usize;
-    while let Some((order, others)) = rest.split_first() {
-        if order.ticket >= ticket {
-            return count;
-        }
-        count += 1;
-        rest = others;
-    }
-    count
+    orders.partition_point(|order| order.ticket < ticket)
 }
 
 /// The order at a place.
