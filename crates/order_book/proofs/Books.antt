@@ -4,12 +4,19 @@ use Rattle.std.proofs.lemmas.Option.{slice_get_within}
 use Rattle.std.proofs.lemmas.List.{length-set}
 use Rattle.std.proofs.lemmas.List.Edits.{length-remove, length-insert}
 use Rattle.account.specs.declared.order.Order.{Order}
-use Rattle.account.specs.Keyed.{item, Rising, lower, found}
+use Rattle.account.specs.Keyed.{item, put, Rising, lower, found}
 use Rattle.account.specs.Orders.{order_ticket, triggered, is_stop_limit}
+use Rattle.account.proofs.Found.{Stands, stands, gone, replaced, new_one}
 use Rattle.account.proofs.Places.{rising-put, rising-gone, numbers}
 use Rattle.order_book.specs.declared.book_fault.BookFault.TheVariants as fault
 use Rattle.order_book.specs.Book.{same_terms, modify_fault, IsBook}
-use Rattle.order_book.proofs.Found.{Stands, stands, stands_one, gone, replaced, new_one, lower-le}
+
+-- the item of the place is that of the ticket
+pub stands_one : {X : Type 0} (key : X → ℕ) (t : ℕ) (xs : List X) (i : ℕ) (x : X) → Rising key xs → Some i ≡ found key t xs → slice_get xs i ≡ Some x → (item key t xs ≡ Some x) × (key x ≡ t)
+stands_one {X} key t xs i x r h g =
+    let s : Stands key t xs i = stands key t xs i r h in
+    let q : s.one ≡ x = grind (rules, s.there) in
+    (s.is ∙ ap Some q, ap key (sym q) ∙ s.key_is)
 
 -- a triggered order keeps its ticket
 pub triggered_ticket : (o : Order) → order_ticket (triggered o) ≡ order_ticket o
@@ -42,9 +49,10 @@ book_less os t i b h = record {
     let m : length os ≤ 1000 = b.few in omega arith;
 }
 
-pub book_more : (os : List Order) (z : Order) → IsBook os → item order_ticket (order_ticket z) os ≡ None → length os < 1000 → IsBook (insert os (lower order_ticket (order_ticket z) os) z)
-book_more os z b h l = record {
-  rising = subst (λ (ys : List Order). Rising order_ticket ys) (new_one order_ticket z os b.rising h) (rising-put ltb numbers order_ticket (order_ticket z) z os refl b.rising);
-  few =
-    let g : length (insert os (lower order_ticket (order_ticket z) os) z) ≡ length os + 1 = length-insert os (lower order_ticket (order_ticket z) os) z (lower-le order_ticket (order_ticket z) os) in omega arith;
-}
+pub book_more : (os : List Order) (z : Order) (i : ℕ) → IsBook os → item order_ticket (order_ticket z) os ≡ None → length os < 1000 → i ≡ lower order_ticket (order_ticket z) os → i ≤ length os → (put order_ticket (order_ticket z) (Some z) os ≡ insert os i z) × IsBook (insert os i z)
+book_more os z i b h l e w =
+    let p : put order_ticket (order_ticket z) (Some z) os ≡ insert os i z = rw e (new_one order_ticket z os b.rising h) in
+    (p, record {
+      rising = subst (λ (ys : List Order). Rising order_ticket ys) p (rising-put ltb numbers order_ticket (order_ticket z) z os refl b.rising);
+      few = let g : length (insert os i z) ≡ length os + 1 = length-insert os i z w in omega arith;
+    })

@@ -1,6 +1,6 @@
 use Rattle.std.proofs.Common.{rules}
 use Rattle.account.specs.Orders.{order_ticket}
-use Rattle.order_book.proofs.Found.{found_hit, found_miss, found_end}
+use Rattle.account.proofs.Found.{found_hit, found_miss, found_end}
 use Rattle.order_book.proofs.sorted.found.Goals as goal
 
 pub returns-then-i-orders-clause-value : goal.returns-then-i-orders-clause-value

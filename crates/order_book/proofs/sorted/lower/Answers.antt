@@ -1,7 +1,7 @@
 use Rattle.std.proofs.Common.{ltb, rules, arith}
 use Rattle.std.proofs.lemmas.List.Sorted.{IsPartitionPoint-from_clause, IsPartitionedBy-ltb}
 use Rattle.account.specs.Orders.{order_ticket}
-use Rattle.order_book.proofs.Found.{never_falls, lower_is}
+use Rattle.order_book.proofs.Lower.{never_falls, lower_is}
 use Rattle.order_book.proofs.sorted.lower.Goals as goal
 
 pub returns-clause-value : goal.returns-clause-value

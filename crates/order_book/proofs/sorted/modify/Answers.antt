@@ -3,8 +3,8 @@ use Rattle.account.specs.declared.order.Order.{Order}
 use Rattle.account.specs.Keyed.{found}
 use Rattle.account.specs.Orders.{order_ticket, changed}
 use Rattle.order_book.specs.Book.{IsBook}
-use Rattle.order_book.proofs.Books.{change_refused, change_taken, book_set}
-use Rattle.order_book.proofs.Found.{mapped, stands_one}
+use Rattle.order_book.proofs.Books.{change_refused, change_taken, book_set, stands_one}
+use Rattle.account.proofs.Found.{changed_at}
 use Rattle.order_book.proofs.sorted.modify.Goals as goal
 
 pub returns-then-same_terms-clause-answer : goal.returns-then-same_terms-clause-answer
@@ -16,7 +16,7 @@ returns-else-same_terms-clause-answer c =
     let f : Some c.in-Some.i ≡ found order_ticket c.args.order.now.ticket c.args.orders.now.items = search rules in
     (
       change_taken c.args.orders.now.items c.args.order.now c.nth.result.now c.in-Some.i c.requires.rising f g (search rules),
-      c.change_at.ensures c.nth.result.now g ∙ sym (mapped order_ticket (changed c.args.order.now) c.args.order.now.ticket c.args.orders.now.items c.in-Some.i c.nth.result.now c.requires.rising f g),
+      c.change_at.ensures c.nth.result.now g ∙ sym (changed_at order_ticket c.args.order.now.ticket (changed c.args.order.now) c.args.orders.now.items c.in-Some.i c.nth.result.now c.requires.rising f g),
     )
 
 pub returns-else-same_terms-clause-book : goal.returns-else-same_terms-clause-book

@@ -3,7 +3,7 @@ use Rattle.account.specs.declared.order.Order.{Order}
 use Rattle.account.specs.Orders.{order_ticket}
 use Rattle.order_book.specs.Book.{IsBook}
 use Rattle.order_book.proofs.Books.{book_less}
-use Rattle.order_book.proofs.Found.{taken, gone, none_gone}
+use Rattle.account.proofs.Found.{taken, gone, none_gone}
 use Rattle.order_book.proofs.sorted.remove.Goals as goal
 
 pub returns-in-Some-clause-value : goal.returns-in-Some-clause-value
