@@ -93,10 +93,23 @@ fn orders_fire_by_ticket(rt: HostRuntime) -> Result<(), Fail> {
 #[test]
 fn a_stop_limit_becomes_a_limit(rt: HostRuntime) -> Result<(), Fail> {
     let mut book = Orders::new(rt.alloc());
-    place(rt.alloc(), &mut book, 3, OrderKind::BuyStopLimit, 11_050, 11_040)?;
-    assert_eq!(rt; fired(rt.alloc(), &book, 11_060)?.as_slice(), [3u64].as_slice());
+    place(
+        rt.alloc(),
+        &mut book,
+        3,
+        OrderKind::BuyStopLimit,
+        11_050,
+        11_040,
+    )?;
+    assert_eq!(rt;
+        fired(rt.alloc(), &book, 11_060)?.as_slice(),
+        [3u64].as_slice()
+    );
     assert!(rt; book.trigger(3));
     assert_eq!(rt; fired(rt.alloc(), &book, 11_045)?.len(), 0);
-    assert_eq!(rt; fired(rt.alloc(), &book, 11_040)?.as_slice(), [3u64].as_slice());
+    assert_eq!(rt;
+        fired(rt.alloc(), &book, 11_040)?.as_slice(),
+        [3u64].as_slice()
+    );
     Ok(())
 }

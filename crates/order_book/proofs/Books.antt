@@ -1,5 +1,5 @@
 -- The book after each call.
-use Rattle.std.proofs.Common.{◌≡◌, ℕ, ◌<◌, ◌≤◌, ◌+◌, Bool, true, false, cond, ltb, List, [], ◌∷◌, length, set, slice_get, insert, remove, Option, Some, None, refl, ap, sym, subst, ◌∙◌, arith, rules}
+use Rattle.std.proofs.Common.{◌≡◌, ℕ, ◌<◌, ◌≤◌, ◌+◌, true, false, ltb, List, length, set, slice_get, insert, remove, Some, None, refl, ap, sym, subst, ◌∙◌, arith, rules}
 use Rattle.std.proofs.lemmas.Option.{slice_get_within}
 use Rattle.std.proofs.lemmas.List.{length-set}
 use Rattle.std.proofs.lemmas.List.Edits.{length-remove, length-insert}
@@ -44,15 +44,17 @@ pub book_less : (os : List Order) (t i : ℕ) → IsBook os → Some i ≡ found
 book_less os t i b h = record {
   rising = subst (λ (ys : List Order). Rising order_ticket ys) (gone order_ticket t os i b.rising h) (rising-gone ltb numbers order_ticket t os b.rising);
   few =
-    let s : Stands order_ticket t os i = stands order_ticket t os i b.rising h in
-    let l : length (remove os i) + 1 ≡ length os = length-remove os i (slice_get_within os i s.one s.there) in
-    let m : length os ≤ 1000 = b.few in omega arith;
+      let s : Stands order_ticket t os i = stands order_ticket t os i b.rising h in
+      let l : length (remove os i) + 1 ≡ length os = length-remove os i (slice_get_within os i s.one s.there) in
+      let m : length os ≤ 1000 = b.few in omega arith;
 }
 
 pub book_more : (os : List Order) (z : Order) (i : ℕ) → IsBook os → item order_ticket (order_ticket z) os ≡ None → length os < 1000 → i ≡ lower order_ticket (order_ticket z) os → i ≤ length os → (put order_ticket (order_ticket z) (Some z) os ≡ insert os i z) × IsBook (insert os i z)
 book_more os z i b h l e w =
-    let p : put order_ticket (order_ticket z) (Some z) os ≡ insert os i z = rw e (new_one order_ticket z os b.rising h) in
-    (p, record {
-      rising = subst (λ (ys : List Order). Rising order_ticket ys) p (rising-put ltb numbers order_ticket (order_ticket z) z os refl b.rising);
-      few = let g : length (insert os i z) ≡ length os + 1 = length-insert os i z w in omega arith;
-    })
+    let p : put order_ticket (order_ticket z) (Some z) os ≡ insert os i z = rw e (new_one order_ticket z os b.rising h) in (
+      p,
+      record {
+        rising = subst (λ (ys : List Order). Rising order_ticket ys) p (rising-put ltb numbers order_ticket (order_ticket z) z os refl b.rising);
+        few = let g : length (insert os i z) ≡ length os + 1 = length-insert os i z w in omega arith;
+      },
+    )

@@ -1,6 +1,6 @@
 -- The book of pending orders: what it holds at most, and when a call is refused (limits own; MQL5
 -- Reference, Trade Server Return Codes, TRADE_RETCODE_NO_CHANGES).
-use Rattle.std.specs.Prelude.{ℕ, ◌≡◌, ◌<◌, ◌≤◌, ◌&&◌, ◌==◌, if◌then◌else◌, Bool, true, false, length, slice_get, slice_set, List, [], ◌∷◌, ◌++◌, Option, Some, None, Result, Ok, Err}
+use Rattle.std.specs.Prelude.{ℕ, ◌≡◌, ◌<◌, ◌≤◌, ◌&&◌, ◌==◌, if◌then◌else◌, Bool, length, slice_get, slice_set, List, [], ◌∷◌, ◌++◌, Option, Some, None, Result, Ok, Err}
 use Rattle.std.specs.Ordering.{int_eq}
 use Rattle.account.specs.declared.order.Order.{Order}
 use Rattle.account.specs.declared.order.OrderTime.{OrderTime}
@@ -46,8 +46,8 @@ change_fault new (Some o) = if same_terms o new then Some fault.NoChanges else N
 abbrev pub modify_fault : List Order → Order → Option BookFault
 modify_fault os new = change_fault new (item order_ticket new.ticket os)
 
--- what placing an order answers and leaves: the next step of the journal, or exactly where as many stand as
--- may the fault, and want of memory; a refusal changes nothing
+-- what placing an order answers and leaves: the journal's step; `Full` exactly where as many stand as may, and
+-- then no change; nor at want of memory
 abbrev pub IsPlaced : List Order → Order → Result (Unit {0}) BookFault → List Order → Type 0
 IsPlaced os o (Ok _) after = (length os < most_orders) × (after ≡ orders_after os (event.Placed o))
 IsPlaced os o (Err fault.Full) after = (length os ≡ most_orders) × (after ≡ os)
@@ -55,8 +55,8 @@ IsPlaced os o (Err fault.OutOfMemory) after = (length os < most_orders) × (afte
 IsPlaced os o (Err fault.NoOrder) after = ⊥
 IsPlaced os o (Err fault.NoChanges) after = ⊥
 
--- what modifying an order answers and leaves: its fault exactly where there is one, and then no change; else
--- the next step of the journal
+-- what modifying an order answers and leaves: the journal's step; its fault exactly where there is one, and
+-- then no change
 abbrev pub IsModified : List Order → Order → Result (Unit {0}) BookFault → List Order → Type 0
 IsModified os new (Ok _) after = (modify_fault os new ≡ None) × (after ≡ orders_after os (event.Modified new))
 IsModified os new (Err e) after = (modify_fault os new ≡ Some e) × (after ≡ os)
@@ -65,6 +65,8 @@ IsModified os new (Err e) after = (modify_fault os new ≡ Some e) × (after ≡
 abbrev pub ChangesAt : (Order → Order) → ℕ → List Order → List Order → Type 0
 ChangesAt change i os after = (o : Order) → slice_get os i ≡ Some o → after ≡ slice_set os i (change o)
 
--- the orders in force go on event by event: the step that a call makes is that of the event it stands for
+-- the orders in force go on event by event, by the journal's step
 abbrev pub GoesOn : Type 0
-GoesOn = (events : List Event) (e : Event) → orders_in_force (events ++ e ∷ []) ≡ orders_after (orders_in_force events) e
+GoesOn =
+    (events : List Event) (e : Event) →
+    orders_in_force (events ++ e ∷ []) ≡ orders_after (orders_in_force events) e

@@ -89,7 +89,8 @@ impl Orders {
     /// Takes the order of a ticket away; `None` exactly where it does not stand. It takes no memory.
     pub fn remove(&mut self, ticket: u64) -> Option<Order>
         ensures value { result ≡ item order_ticket ticket self.old }
-        ensures rest { (cause : RemovalCause) → self.new ≡ orders_after self.old (event.Removed ticket cause) }
+        ensures rest { (cause : RemovalCause) →
+            self.new ≡ orders_after self.old (event.Removed ticket cause) }
         ensures missing { IfNone result (self.new ≡ self.old) }
     {
         sorted::remove(&mut self.orders, ticket)

@@ -42,7 +42,11 @@ fn found(orders: &[Order], ticket: u64) -> Option<usize>
     if i >= orders.len() {
         return None;
     }
-    if nth(orders, i).ticket == ticket { Some(i) } else { None }
+    if nth(orders, i).ticket == ticket {
+        Some(i)
+    } else {
+        None
+    }
 }
 
 /// The order of a ticket.

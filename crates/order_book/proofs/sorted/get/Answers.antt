@@ -1,4 +1,4 @@
-use Rattle.std.proofs.Common.{rules, sym, ◌∙◌}
+use Rattle.std.proofs.Common.{rules, sym}
 use Rattle.account.specs.Orders.{order_ticket}
 use Rattle.order_book.proofs.Books.{stands_one}
 use Rattle.order_book.proofs.sorted.get.Goals as goal

@@ -13,8 +13,7 @@ returns-then-same_terms-clause-answer c = (change_refused c.args.orders.now.item
 pub returns-else-same_terms-clause-answer : goal.returns-else-same_terms-clause-answer
 returns-else-same_terms-clause-answer c =
     let g : slice_get c.args.orders.now.items c.in-Some.i ≡ Some c.nth.result.now = search rules in
-    let f : Some c.in-Some.i ≡ found order_ticket c.args.order.now.ticket c.args.orders.now.items = search rules in
-    (
+    let f : Some c.in-Some.i ≡ found order_ticket c.args.order.now.ticket c.args.orders.now.items = search rules in (
       change_taken c.args.orders.now.items c.args.order.now c.nth.result.now c.in-Some.i c.requires.rising f g (search rules),
       c.change_at.ensures c.nth.result.now g ∙ sym (changed_at order_ticket c.args.order.now.ticket (changed c.args.order.now) c.args.orders.now.items c.in-Some.i c.nth.result.now c.requires.rising f g),
     )
