@@ -1,0 +1,13 @@
+pub mod Conservation
+pub mod Deals
+pub mod Firing
+pub mod Journal
+pub mod Keyed
+pub mod Money
+pub mod Orders
+pub mod Positions
+pub mod Ranges
+pub mod Statistics
+pub mod StopOut
+pub mod Totals
+pub mod Books

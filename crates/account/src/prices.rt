@@ -1,0 +1,48 @@
+//! The prices that an account sees.
+ghost use Rattle.std.specs.Prelude.{◌≡◌, ◌<◌, length, slice_get, slice_set, Some, None, IfOk, All};
+
+use fx8::{Fix8, OutOfMemory};
+use std::alloc::Global;
+use std::marker::Model;
+
+/// The last loud Bid and Ask of each symbol. Contracts see, for each symbol, the pair of both, none before
+/// the first.
+#[derive(Debug, Drop)]
+pub struct Prices {
+    pairs: Vec<Option<(Fix8, Fix8)>>,
+}
+
+impl Model for Prices {
+    ghost use Rattle.std.specs.Prelude.{List, Option, ℤ};
+
+    ghost Value = { List (Option (ℤ × ℤ)) };
+
+    ghost view = { λ prices. prices.pairs.items };
+}
+
+impl Prices {
+    /// No prices yet of so many symbols.
+    pub fn new(alloc: Global, symbols: u8) -> Result<Prices, OutOfMemory>
+        ensures { IfOk result (λ prices. (length prices ≡ symbols) × All (λ pair. pair ≡ None) prices) }
+    {
+        let mut pairs = Vec::new(alloc);
+        pairs.resize(symbols as usize, None)?;
+        Ok(Prices { pairs })
+    }
+
+    /// Sets the prices of a symbol.
+    pub fn set(&mut self, symbol: u8, bid: Fix8, ask: Fix8)
+        requires { symbol < length self.old }
+        ensures { self.new ≡ slice_set self.old symbol (Some (bid, ask)) }
+    {
+        self.pairs[symbol as usize] = Some((bid, ask));
+    }
+
+    /// Bid and Ask of a symbol; `None` exactly before the first `set`.
+    pub fn at(&self, symbol: u8) -> Option<(Fix8, Fix8)>
+        requires { symbol < length self.now }
+        ensures { slice_get self.now symbol ≡ Some result }
+    {
+        self.pairs[symbol as usize]
+    }
+}
