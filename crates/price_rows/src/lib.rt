@@ -6,7 +6,6 @@ mod fields;
 mod files;
 mod moment;
 mod numbers;
-mod parts;
 mod row_fault;
 mod text;
 mod tick_row;
