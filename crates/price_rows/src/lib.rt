@@ -12,6 +12,3 @@ mod tick_row;
 
 pub use files::{read_bars, read_ticks};
 pub use row_fault::RowFault;
-
-#[cfg(test)]
-mod tests;
