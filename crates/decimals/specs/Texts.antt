@@ -1,15 +1,18 @@
 -- Decimal numbers in units of their last place: digits, and optionally a point and digits. Own.
-use Rattle.std.specs.Prelude.{ℕ, ◌+◌, ◌-◌, ◌*◌, ◌^◌, Bool, true, false, drop, ◌&&◌, ◌==◌, nat_le, nat_lt, if◌then◌else◌, List, [], ◌∷◌, length, Option, Some, None, option_map, ℤ, pos, neg_ℤ}
+use Rattle.std.specs.Prelude.{ℕ, ◌+◌, ◌-◌, ◌*◌, ◌^◌, Bool, drop, ◌&&◌, ◌==◌, nat_le, nat_lt, if◌then◌else◌, List, [], ◌∷◌, length, Option, Some, None, option_map, ℤ, pos, neg_ℤ}
 use Rattle.std.specs.Option.{option_and_then}
 use Rattle.std.specs.List.{slice_split}
-use Rattle.fx8.specs.Decimals.{is_digit, all_digits, number_after}
+use Rattle.fx8.specs.Decimals.{all_digits, number_after, has_minus}
 
+-- f of the value, where there is one
 abbrev pub given : {A B : Type 0} → Option A → (A → Option B) → Option B
 given o f = option_and_then f o
 
+-- the value, where the test holds
 abbrev pub provided : {A : Type 0} → Bool → A → Option A
 provided test x = if test then Some x else None
 
+-- the parts of a text round each separator
 abbrev pub parts : ℕ → List ℕ → List (List ℕ)
 parts separator text = slice_split (λ b. b == separator) text
 
@@ -29,6 +32,7 @@ pointed places limit whole_part decimals =
     (λ k. provided (nat_le (length decimals) places)
     (n * 10 ^ places + k * 10 ^ (places - length decimals))))
 
+-- the parts of a number round its point, if it has one
 abbrev pub of_parts : ℕ → ℕ → List (List ℕ) → Option ℕ
 of_parts places limit [] = None
 of_parts places limit (whole_part ∷ []) = plain places limit whole_part
@@ -39,12 +43,8 @@ of_parts places limit (whole_part ∷ decimals ∷ more ∷ most) = None
 abbrev pub unsigned : ℕ → ℕ → List ℕ → Option ℕ
 unsigned places limit text = of_parts places limit (parts 46 text)
 
-abbrev pub is_negative : List ℕ → Bool
-is_negative [] = false
-is_negative (b ∷ text) = b == 45
-
 -- the same after an optional `-`
 abbrev pub signed : ℕ → ℕ → List ℕ → Option ℤ
-signed places limit text = if is_negative text
+signed places limit text = if has_minus text
     then option_map (λ n. neg_ℤ (pos n)) (unsigned places limit (drop 1 text))
     else option_map pos (unsigned places limit text)

@@ -1,9 +1,15 @@
-//! Tests of the language's crates that cross them.
+//! Tests of the language's crates, from its lists to macros.
 #![tactic(auto)]
 
 #[cfg(test)]
 mod lists;
 #[cfg(test)]
 mod lowering;
+#[cfg(test)]
+mod macros;
+#[cfg(test)]
+mod spelling;
+#[cfg(test)]
+mod text;
 #[cfg(test)]
 mod tokens;

@@ -1,7 +1,7 @@
 -- Words and names.
 use Rattle.std.specs.Prelude.{ℕ, ◌==◌, Bool, false, not, ◌&&◌, ◌||◌, nat_le, List, [], ◌∷◌, length, codes, is_some}
 use Rattle.std.specs.List.{list_all}
-use Rattle.mql_spelling.specs.Lexeme.{is_digit}
+use Rattle.fx8.specs.Decimals.{is_digit}
 use Rattle.mql_spelling.specs.ReservedWords.{reserved_word}
 use Rattle.mql_level.specs.declared.word.KnownName.{KnownName}
 use Rattle.mql_level.specs.declared.word.KnownName.TheVariants.{OnTick, Print}

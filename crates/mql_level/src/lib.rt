@@ -8,8 +8,6 @@ mod number;
 mod part;
 mod scope;
 mod statement;
-#[cfg(test)]
-mod tests;
 mod word;
 
 pub use level::{LevelFault, read_level};

@@ -2,6 +2,7 @@
 use Rattle.std.specs.Prelude.{◌≡◌, ℕ, ℤ, pos, negsuc, zero, suc, Bool, true, false, ◌&&◌, IsTrue, List, [], ◌∷◌, Result, Ok, Err}
 use Rattle.mql_mean.specs.declared.value.Value.{Value, out-Value}
 use Rattle.mql_mean.specs.declared.value.Value.TheOpen.{Value-F}
+use Rattle.fx8.specs.Integers.{is_zero}
 use Rattle.fx8.specs.declared.int_kind.IntKind.{IntKind}
 use Rattle.fx8.specs.declared.int_kind.IntKind.TheVariants as kind
 use Rattle.mql_mean.specs.declared.tree.Native.{Native}
@@ -45,12 +46,6 @@ abbrev pub takes : Native → List Value → Bool
 takes Print args = all_print args
 
 -- the number 0 of the kind int, which stands for the value of a void function (own)
-abbrev pub is_zero : ℤ → Bool
-is_zero (pos zero) = true
-is_zero (pos (suc n)) = false
-is_zero (negsuc n) = false
-
--- a value is the number 0 of int
 abbrev pub is_void_at : Value-F Value → Bool
 is_void_at (Value-F.Num k x) = is_int k && is_zero x
 is_void_at (Value-F.Dbl x) = false

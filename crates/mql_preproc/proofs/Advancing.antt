@@ -1,5 +1,5 @@
 -- The innermost file is read on, and the others wait.
-use Rattle.std.proofs.Common.{◌≡◌, ℕ, suc, ◌+◌, ◌-◌, ◌*◌, ◌<◌, ◌≤◌, List, [], ◌∷◌, ◌++◌, length, refl, sym, ap, subst, ◌∙◌, arith, length-append, All, Some, Result, Ok, Err}
+use Rattle.std.proofs.Common.{◌≡◌, ℕ, suc, ◌+◌, ◌<◌, List, [], ◌∷◌, ◌++◌, length, refl, sym, ap, subst, arith, length-append, All, Some, Result, Ok, Err}
 use Rattle.std.specs.Prelude.{slice_get, IfOk, IfErr}
 use Rattle.std.proofs.lemmas.List.Elements.{All-cons}
 use Rattle.mql_tree.specs.declared.token.Span.{Span}
@@ -13,7 +13,7 @@ use Rattle.mql_preproc.specs.declared.state.Open.{Open}
 use Rattle.mql_preproc.specs.declared.state.Left.{Left}
 use Rattle.mql_preproc.specs.declared.state.Reading.{Reading}
 use Rattle.mql_preproc.specs.Names.{place_of}
-use Rattle.mql_preproc.specs.Reading.{begun, entered, with_state, Reads, lexed, Leads, Preprocesses, absent, made, faulty}
+use Rattle.mql_preproc.specs.Reading.{begun, entered, Reads, lexed, Leads, Preprocesses, made, faulty}
 use Rattle.mql_preproc.specs.Resume.{progress_in, Resumes, all_read, goes_on, stops, finished, Stands}
 use Rattle.mql_preproc.specs.declared.state.Advance.{Advance}
 use Rattle.mql_preproc.specs.declared.state.Advance.TheVariants as advances

@@ -1,5 +1,5 @@
 -- What the code takes from the tokens that are left of a file: no definition for readers.
-use Rattle.std.specs.Prelude.{◌≡◌, ℕ, ◌+◌, Bool, false, List, [], ◌∷◌, ◌++◌, take, drop, Option, Some, None}
+use Rattle.std.specs.Prelude.{◌≡◌, ℕ, ◌+◌, false, List, ◌∷◌, ◌++◌, take, drop, Option, Some, None}
 use Rattle.mql_tree.specs.declared.token.Span.{Span}
 use Rattle.mql_tree.specs.declared.token.Token as token
 use Rattle.mql_preproc.specs.declared.part.Line.{Line}

@@ -2,7 +2,8 @@
 ghost use Rattle.std.specs.Prelude.{◌≡◌, ◌<◌, ◌≤◌, ◌^◌, length, IfOk, IfSome};
 ghost use Rattle.mql_preproc.specs.Answers.{Gives};
 ghost use Rattle.mql_preproc.specs.Conditions.{macros_behind, conditions_behind};
-ghost use Rattle.mql_preproc.specs.Reading.{is_among, is_read, admission, admitted, settled, obeyed, deed};
+ghost use Rattle.mql_preproc.specs.Reading.{is_read, admission, admitted, settled, obeyed, deed};
+ghost use Rattle.mql_macros.specs.Pieces.{is_among};
 ghost use Rattle.mql_preproc.specs.Onward.{Did, IncludesWithin};
 
 use crate::directive::{Directive, Setting, directive_of};
@@ -72,7 +73,12 @@ fn admission(
 }
 
 /// What a setting leaves in force and open.
-fn settled(span: Span, setting: Setting, progress: Progress) -> Result<Deed, PreFault>
+fn settled(
+    alloc: Global,
+    span: Span,
+    setting: Setting,
+    progress: Progress,
+) -> Result<Deed, PreFault>
     ensures exact { Did progress (settled span progress (macros_behind setting progress.state.macros)
         (conditions_behind span setting progress.state.macros progress.conditions)) result }
     ensures within { IfOk result (λ d. IncludesWithin 0 32 d) }
@@ -82,7 +88,7 @@ fn settled(span: Span, setting: Setting, progress: Progress) -> Result<Deed, Pre
     let Some(conditions) = conditions_behind(span, &setting, &macros, conditions)? else {
         return Err(PreFault::BadDirective(span));
     };
-    let macros = macros_behind(setting, macros)?;
+    let macros = macros_behind(alloc, setting, macros)?;
     Ok(Deed::Goes(Progress {
         state: State { macros, read, made },
         conditions,
@@ -130,7 +136,7 @@ fn obeyed(
             let name = included_name(alloc, source, &name, place)?;
             included(sources, depth, span, progress, name)
         }
-        Some(Directive::Sets(setting)) => settled(span, setting, progress),
+        Some(Directive::Sets(setting)) => settled(alloc, span, setting, progress),
     }
 }
 

@@ -16,7 +16,7 @@ use crate::source::{Source, Sources, place_of};
 use crate::state::{Advance, Deed, Left, Open, Pause, Progress, Reading, State, Stop};
 use crate::string_run::joined;
 use fx8::{Numbers, OutOfMemory, Stack, Text, Text8};
-use mql_macros::{Macro, MacroList, expand};
+use mql_macros::{Macro, MacroTable, expand};
 use mql_source::MOST_TOKENS;
 use mql_tree::{Tokens, lex};
 use std::alloc::Global;
@@ -28,14 +28,13 @@ const MQL5: [u16; 8] = [95, 95, 77, 81, 76, 53, 95, 95];
 fn begun(alloc: Global) -> Result<State, OutOfMemory>
     ensures { IfOk result (λ s. s ≡ begun) }
 {
-    let mut macros = MacroList::new(alloc);
-    macros.push(Macro {
+    let mql5 = Macro {
         name: Text::from_slice(alloc, MQL5.as_slice())?,
         parameters: None,
         body: Tokens::new(alloc),
-    })?;
+    };
     Ok(State {
-        macros,
+        macros: MacroTable::new(alloc).with(alloc, mql5)?,
         read: Numbers::new(alloc),
         made: Tokens::new(alloc),
     })

@@ -4,7 +4,8 @@ use Rattle.std.proofs.Math.Nat.{pow-le-pow_right, le-mul_of_pos_right, one-le-po
 use Rattle.std.proofs.lemmas.Bool.{cases_lt}
 use Rattle.std.proofs.lemmas.List.{take_min}
 use Rattle.mql_spelling.specs.Value.{value_from}
-use Rattle.mql_spelling.specs.Real.{half, kept, digits_of, exponent_part, digits_len, is_negative, exponent_digits, places_kept, double_of, real_value}
+use Rattle.mql_spelling.specs.Real.{half, kept, digits_of, exponent_part, digits_len, exponent_digits, places_kept, double_of, real_value}
+use Rattle.fx8.specs.Decimals.{has_minus}
 
 -- a power that does not fit, times a number that is not 0
 pub no_fit : (value power : ℕ) → (value ≡ 0 → ⊥) → 2 ^ 64 ≤ power → 2 ^ 64 ≤ value * power
@@ -77,7 +78,7 @@ kept_of_some digits most places result None h f = absurd cc
 kept_of_some digits most places result (Some k) h f = f k cc
 
 -- a double literal is read by its parts
-pub real_by : (piece digits slice expo edigits : List ℕ) (before most : ℕ) (neg : Bool) (exponent places units : Option ℕ) (result : Option ℤ) → digits ≡ digits_of piece → slice ≡ digits → expo ≡ exponent_part piece → before ≡ digits_len piece → neg ≡ is_negative expo → edigits ≡ exponent_digits expo → MatchOption exponent (2 ^ 64 ≤ value_from 10 0 edigits) (λ e. e ≡ value_from 10 0 edigits) → ((y : ℕ) → MatchOption exponent (2 ^ 64 ≤ y) (λ e. e ≡ y) → places ≡ option_map (λ k. min k most) (places_kept before neg y)) → most ≡ length slice + 20 → ((o : Option ℕ) → places ≡ option_map (λ k. min k (length slice + 20)) o → MatchOption units (2 ^ 64 ≤ kept slice o) (λ v. v ≡ kept slice o)) → ((v : ℕ) → MatchOption units (2 ^ 64 ≤ v) (λ u. u ≡ v) → result ≡ double_of v) → result ≡ real_value piece
+pub real_by : (piece digits slice expo edigits : List ℕ) (before most : ℕ) (neg : Bool) (exponent places units : Option ℕ) (result : Option ℤ) → digits ≡ digits_of piece → slice ≡ digits → expo ≡ exponent_part piece → before ≡ digits_len piece → neg ≡ has_minus expo → edigits ≡ exponent_digits expo → MatchOption exponent (2 ^ 64 ≤ value_from 10 0 edigits) (λ e. e ≡ value_from 10 0 edigits) → ((y : ℕ) → MatchOption exponent (2 ^ 64 ≤ y) (λ e. e ≡ y) → places ≡ option_map (λ k. min k most) (places_kept before neg y)) → most ≡ length slice + 20 → ((o : Option ℕ) → places ≡ option_map (λ k. min k (length slice + 20)) o → MatchOption units (2 ^ 64 ≤ kept slice o) (λ v. v ≡ kept slice o)) → ((v : ℕ) → MatchOption units (2 ^ 64 ≤ v) (λ u. u ≡ v) → result ≡ double_of v) → result ≡ real_value piece
 unfolding real_value
 real_by piece digits slice expo edigits before most neg exponent places units result d s x b n e num p m v r =
     let o : Option ℕ = places_kept before neg (value_from 10 0 edigits) in
@@ -86,5 +87,5 @@ real_by piece digits slice expo edigits before most neg exponent places units re
     found
     ∙ ap (λ (us : List ℕ). double_of (kept us o)) (s ∙ d)
     ∙ ap (λ (i : ℕ). double_of (kept (digits_of piece) (places_kept i neg (value_from 10 0 edigits)))) b
-    ∙ ap (λ (t : Bool). double_of (kept (digits_of piece) (places_kept (digits_len piece) t (value_from 10 0 edigits)))) (n ∙ ap is_negative x)
-    ∙ ap (λ (us : List ℕ). double_of (kept (digits_of piece) (places_kept (digits_len piece) (is_negative (exponent_part piece)) (value_from 10 0 us)))) (e ∙ ap exponent_digits x)
+    ∙ ap (λ (t : Bool). double_of (kept (digits_of piece) (places_kept (digits_len piece) t (value_from 10 0 edigits)))) (n ∙ ap has_minus x)
+    ∙ ap (λ (us : List ℕ). double_of (kept (digits_of piece) (places_kept (digits_len piece) (has_minus (exponent_part piece)) (value_from 10 0 us)))) (e ∙ ap exponent_digits x)

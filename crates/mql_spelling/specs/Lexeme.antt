@@ -8,10 +8,7 @@ use Rattle.mql_spelling.specs.declared.lexeme.Lexeme.TheVariants.{Blank, OpenCom
 use Rattle.mql_spelling.specs.declared.lexeme.Mode.{Mode}
 use Rattle.mql_spelling.specs.declared.lexeme.Mode.TheVariants.{Plain, Hash, Include, Directive}
 use Rattle.mql_spelling.specs.Signs.{spelled_sign}
-
--- a digit (MQL5 Reference, Integer Types)
-abbrev pub is_digit : ℕ → Bool
-is_digit u = nat_le 48 u && nat_le u 57
+use Rattle.fx8.specs.Decimals.{is_digit}
 
 -- a hexadecimal digit (MQL5 Reference, Integer Types)
 abbrev pub is_hex_digit : ℕ → Bool

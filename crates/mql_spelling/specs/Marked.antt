@@ -1,7 +1,7 @@
 -- The values of dates and colors, from their fields.
 use Rattle.std.specs.Prelude.{ℕ, ◌+◌, ◌-◌, ◌*◌, ◌/◌, ◌%◌, Bool, not, ◌==◌, ◌&&◌, ◌||◌, nat_lt, nat_le, List, [], ◌∷◌, Option, Some, None, option_and_then, if◌then◌else◌}
 use Rattle.mql_spelling.specs.declared.marked.Day.{Day}
-use Rattle.mql_spelling.specs.Lexeme.{is_digit}
+use Rattle.fx8.specs.Decimals.{is_digit}
 use Rattle.mql_spelling.specs.Value.{value_from}
 use Rattle.mql_spelling.specs.Real.{digits_len, digits_front, digits_rest}
 

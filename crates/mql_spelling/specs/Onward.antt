@@ -4,7 +4,8 @@ use Rattle.mql_spelling.specs.declared.lexeme.Lexeme.{Lexeme}
 use Rattle.mql_spelling.specs.declared.lexeme.Lexeme.TheVariants.{Blank, Name, Double, Hexadecimal}
 use Rattle.mql_spelling.specs.declared.scan.State.{State}
 use Rattle.mql_spelling.specs.declared.scan.State.TheVariants.{Dead, Ended, Word, Marked, Inside, Skipping, Zero, Whole, Point, Fraction, Mark, ExponentSign, Exponent, HexMark, Hex, Slash, LineComment, Block, Star, Continued, ContinuedReturn, One, Two, Three}
-use Rattle.mql_spelling.specs.Lexeme.{is_word_unit, is_digit, is_hex_digit, is_in_line, ends, only, some_only, sign_of, inside, marked, exponent, fraction, whole, zero, point, block, slash, line_feed, continued}
+use Rattle.mql_spelling.specs.Lexeme.{is_word_unit, is_hex_digit, is_in_line, ends, only, some_only, sign_of, inside, marked, exponent, fraction, whole, zero, point, block, slash, line_feed, continued}
+use Rattle.fx8.specs.Decimals.{is_digit}
 
 -- what a piece is whose beginning was read, by the units that follow
 abbrev pub after : State → List ℕ → Option Lexeme

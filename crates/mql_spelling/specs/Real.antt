@@ -1,6 +1,6 @@
 -- The value of a double literal, from its digits.
 use Rattle.std.specs.Prelude.{ℕ, ℤ, ◌+◌, ◌-◌, ◌*◌, ◌^◌, Bool, true, false, ◌==◌, nat_lt, nat_le, pos, List, [], ◌∷◌, ◌++◌, length, take, drop, slice_index, Option, Some, None, if◌then◌else◌}
-use Rattle.mql_spelling.specs.Lexeme.{is_digit}
+use Rattle.fx8.specs.Decimals.{is_digit, has_minus}
 use Rattle.mql_spelling.specs.Value.{value_from}
 
 -- how many digits a text begins with
@@ -25,11 +25,7 @@ abbrev pub fraction_rest : List ℕ → List ℕ
 fraction_rest [] = []
 fraction_rest (u ∷ us) = if u == 46 then digits_rest us else u ∷ us
 
--- behind the mark of an exponent: whether it is negative, and its digits (MQL5 Reference, Real Types)
-abbrev pub is_negative : List ℕ → Bool
-is_negative [] = false
-is_negative (u ∷ us) = u == 45
-
+-- the digits behind the mark of an exponent and its sign (MQL5 Reference, Real Types)
 abbrev pub exponent_digits : List ℕ → List ℕ
 exponent_digits [] = []
 exponent_digits (u ∷ us) = if u == 45 then us else if u == 43 then us else u ∷ us
@@ -66,5 +62,5 @@ exponent_part piece = drop 1 (fraction_rest (digits_rest piece))
 unfoldable pub real_value : List ℕ → Option ℤ
 real_value piece =
     double_of (kept (digits_of piece)
-    (places_kept (digits_len piece) (is_negative (exponent_part piece))
+    (places_kept (digits_len piece) (has_minus (exponent_part piece))
     (value_from 10 0 (exponent_digits (exponent_part piece)))))

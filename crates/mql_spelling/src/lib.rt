@@ -8,8 +8,6 @@ mod real;
 mod reserved;
 mod scan;
 mod sign;
-#[cfg(test)]
-mod tests;
 mod units;
 mod value;
 

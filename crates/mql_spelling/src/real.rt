@@ -1,7 +1,8 @@
 //! The value of a double literal.
 ghost use Rattle.std.specs.Prelude.{◌≡◌, ℕ, ◌+◌, ◌-◌, ◌*◌, ◌^◌, ◌<◌, ◌≤◌, min, length, IfOk, MatchOption, Option, Some, None, option_map};
 ghost use Rattle.mql_spelling.specs.Value.{value_from};
-ghost use Rattle.mql_spelling.specs.Real.{digits_len, digits_front, digits_rest, fraction_of, fraction_rest, is_negative, exponent_digits, places_kept, half, kept, double_of, digits_of, exponent_part, real_value};
+ghost use Rattle.mql_spelling.specs.Real.{digits_len, digits_front, digits_rest, fraction_of, fraction_rest, exponent_digits, places_kept, half, kept, double_of, digits_of, exponent_part, real_value};
+ghost use Rattle.fx8.specs.Decimals.{has_minus};
 ghost use Rattle.mql_source.specs.Limits.{most_units};
 
 use crate::units::is_digit;
@@ -77,8 +78,8 @@ fn fraction_rest(rest: &[u16]) -> &[u16]
     }
 }
 
-fn is_negative(exponent: &[u16]) -> bool
-    ensures { result ≡ is_negative exponent.now }
+fn has_minus(exponent: &[u16]) -> bool
+    ensures { result ≡ has_minus exponent.now }
 {
     match exponent.split_first() {
         Some((unit, _)) => *unit == 45,
@@ -237,7 +238,7 @@ pub fn real_value(alloc: Global, piece: &[u16]) -> Result<Option<Fix8>, OutOfMem
     let before = digits_len(piece) as u64;
     let places = places_kept(
         before,
-        is_negative(exponent),
+        has_minus(exponent),
         number(10, exponent_digits(exponent)),
         most,
     );

@@ -3,7 +3,8 @@ ghost use Rattle.std.specs.Prelude.{◌≡◌, ℕ, ◌≤◌, List, [], ◌∷�
 ghost use Rattle.std.specs.Bool.{OnTrue};
 ghost use Rattle.mql_spelling.specs.Longest.{Longest, pick, last_from};
 ghost use Rattle.std.specs.Prelude.{true, false};
-ghost use Rattle.mql_spelling.specs.Lexeme.{is_digit, is_hex_digit, is_word_unit, is_blank, is_in_line, is_exponent_mark, close_of, has_escapes, unclosed, inside, whole, fraction, block, only, some_only, marked, zero, point, exponent, slash, line_feed, continued, line_end, backslash, quotation, angle, sign_of, lexeme};
+ghost use Rattle.mql_spelling.specs.Lexeme.{is_hex_digit, is_word_unit, is_blank, is_in_line, is_exponent_mark, close_of, has_escapes, unclosed, inside, whole, fraction, block, only, some_only, marked, zero, point, exponent, slash, line_feed, continued, line_end, backslash, quotation, angle, sign_of, lexeme};
+ghost use Rattle.fx8.specs.Decimals.{is_digit};
 ghost use Rattle.mql_spelling.specs.Onward.{after};
 ghost use Rattle.mql_spelling.specs.declared.lexeme.Lexeme.TheVariants.{Name, Double, Hexadecimal, Blank};
 ghost use Rattle.mql_source.specs.Limits.{most_units};

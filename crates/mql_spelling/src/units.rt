@@ -1,6 +1,7 @@
 //! The units of names and numbers.
 ghost use Rattle.std.specs.Prelude.{◌≡◌, bytes_eq};
-ghost use Rattle.mql_spelling.specs.Lexeme.{is_digit, is_hex_digit, is_letter, is_word_unit};
+ghost use Rattle.mql_spelling.specs.Lexeme.{is_hex_digit, is_letter, is_word_unit};
+ghost use Rattle.fx8.specs.Decimals.{is_digit};
 
 /// Whether the unit is a digit.
 pub fn is_digit(unit: u16) -> bool

@@ -2,8 +2,6 @@
 #![tactic(auto)]
 
 mod lexer;
-#[cfg(test)]
-mod tests;
 mod text;
 mod token;
 mod value;

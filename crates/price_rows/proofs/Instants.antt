@@ -11,7 +11,7 @@ use Rattle.jiff_core.specs.Calendar.{IsDate, days_from_civil}
 use Rattle.price_rows.proofs.Days.{day_range, same_day}
 use Rattle.jiff_core.specs.DateTime.{civil_nanos}
 use Rattle.price_rows.specs.Moments.{instant, IsDayNumber}
-use Rattle.price_rows.specs.Numbers.{given}
+use Rattle.decimals.specs.Texts.{given}
 use Rattle.market_types.specs.Ordered.{IsMoment, IsMinute}
 
 hms_sum : (s : ℕ) → s / 3600 * 3600 + s / 60 % 60 * 60 + s % 60 ≡ s

@@ -1,7 +1,8 @@
 -- Dates and times as a price file writes them, in the calendar of the library `jiff`.
 use Rattle.std.specs.Prelude.{ℕ, ◌+◌, ◌*◌, Bool, ◌&&◌, nat_le, List, [], ◌∷◌, Option, Some, None, option_map, ℤ, pos, ◌+ℤ◌, ◌*ℤ◌, ◌≤ℤ◌}
 use Rattle.jiff_core.specs.Calendar.{days_in_month, days_from_civil}
-use Rattle.price_rows.specs.Numbers.{given, provided, parts, whole_of}
+use Rattle.price_rows.specs.Numbers.{whole_of}
+use Rattle.decimals.specs.Texts.{given, provided, parts}
 
 -- a day that the calendar has, of the years 1970 to 2999
 abbrev pub is_day : ℕ → ℕ → ℕ → Bool

@@ -6,7 +6,8 @@ use Rattle.std.specs.Str.{bytes_eq}
 use Rattle.csv.specs.Records.{field_at}
 use Rattle.market_types.specs.declared.bar.Bar.{Bar}
 use Rattle.market_types.specs.declared.tick.Tick.{Tick}
-use Rattle.price_rows.specs.Numbers.{given, provided, whole, price, last_price, tick_volume}
+use Rattle.price_rows.specs.Numbers.{price, last_price, tick_volume}
+use Rattle.decimals.specs.Texts.{given, provided, whole}
 use Rattle.price_rows.specs.Moments.{minute, moment}
 use Rattle.price_rows.specs.declared.bar_row.BarNumbers.{BarNumbers}
 use Rattle.price_rows.specs.declared.tick_row.TickNumbers.{TickNumbers}

@@ -1,19 +1,12 @@
 -- What contracts read of the program's own types.
-use Rattle.std.specs.Prelude.{◌≡◌, ℕ, List, [], ◌++◌, Option, Some, None, Result, Ok, Err, ⊤, codes}
-use Rattle.std.specs.Borrow.{Bor}
+use Rattle.std.specs.Prelude.{◌≡◌, ℕ, List, ◌++◌, Result, Ok, Err, ⊤, codes}
 use Rattle.std.specs.Fmt.{decimal}
-use Rattle.price_rows.specs.Numbers.{parts}
 use Rattle.price_rows.specs.Rows.{BarText, TickText}
 use Rattle.price_rows.specs.Files.{Judged}
 use Rattle.price_rows.specs.declared.fields.BarFields.{BarFields}
 use Rattle.price_rows.specs.declared.fields.TickFields.{TickFields}
 use Rattle.price_rows.specs.declared.row_fault.RowFault.{RowFault}
 use Rattle.price_rows.specs.declared.row_fault.RowFault.TheVariants as fault
-
--- the parts of what is left of a text, if something is
-abbrev pub parts_left : ℕ → Option (Bor (List ℕ)) → List (List ℕ)
-parts_left separator None = []
-parts_left separator (Some text) = parts separator text.now
 
 -- what the fields of the program hold
 abbrev pub bar_texts : BarFields → BarText

@@ -9,8 +9,9 @@ ghost use Rattle.price_rows.specs.Views.{bar_texts};
 
 use crate::fields::BarFields;
 use crate::moment::minute;
-use crate::numbers::{fixed, price, whole};
+use crate::numbers::{fixed, price};
 use csv::ByteRecord;
+use decimals::whole;
 use market_types::Bar;
 
 /// The last row that a file may have: 4,000,000 after the header.

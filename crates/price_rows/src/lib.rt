@@ -6,13 +6,9 @@ mod fields;
 mod files;
 mod moment;
 mod numbers;
-mod parts;
 mod row_fault;
 mod text;
 mod tick_row;
 
 pub use files::{read_bars, read_ticks};
 pub use row_fault::RowFault;
-
-#[cfg(test)]
-mod tests;

@@ -1,13 +1,13 @@
 //! Dates and times of a price file, on the calendar of `jiff`.
 ghost use Rattle.std.specs.Prelude.{◌≡◌, ◌<◌, ◌≤◌, ◌*◌, pos, ◌*ℤ◌, ◌≤ℤ◌, None, Some, MatchOption, IfSome};
 ghost use Rattle.jiff.specs.Words.{civil_nanos, epoch_day};
-ghost use Rattle.price_rows.specs.Numbers.{given, provided, parts};
+ghost use Rattle.decimals.specs.Texts.{given, provided, parts};
 ghost use Rattle.price_rows.specs.Moments.{three, is_day, instant, day_number, day_of, date_of, time_of, clock_of, seconds_of_parts, moment, minutes_of, minute_time, minute, IsDayNumber};
 ghost use Rattle.market_types.specs.Ordered.{IsMoment, IsMinute};
 ghost use Rattle.jiff_core.specs.Calendar.{days_from_civil};
 
 use crate::numbers::whole_of;
-use crate::parts::Parts;
+use decimals::Parts;
 use jiff::civil::{Date, Time};
 use jiff::tz::Offset;
 

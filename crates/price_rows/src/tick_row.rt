@@ -11,8 +11,9 @@ ghost use Rattle.price_rows.specs.Views.{tick_texts};
 use crate::bar_row::LAST_ROW;
 use crate::fields::TickFields;
 use crate::moment::moment;
-use crate::numbers::{fixed, last_price, price, tick_volume, whole};
+use crate::numbers::{fixed, last_price, price, tick_volume};
 use csv::ByteRecord;
+use decimals::whole;
 use fx8::Fix8;
 use market_types::Tick;
 

@@ -104,8 +104,9 @@ all_of test (b ∷ text) = test b && all_of test text
 abbrev pub is_name_of : ℕ → (ℕ → Bool) → List ℕ → Bool
 is_name_of most test text = (nat_le 1 (length text) && nat_le (length text) most) && all_of test text
 
-abbrev pub is_letter : ℕ → Bool
-is_letter b = (nat_le 65 b && nat_le b 90) || (nat_le 97 b && nat_le b 122)
+-- an ASCII letter
+abbrev pub is_latin_letter : ℕ → Bool
+is_latin_letter b = (nat_le 65 b && nat_le b 90) || (nat_le 97 b && nat_le b 122)
 
 -- printable ASCII and no blank
 abbrev pub is_visible : ℕ → Bool
@@ -114,7 +115,7 @@ is_visible b = nat_le 33 b && nat_le b 126
 -- the account's currency has 1 to 8 letters
 abbrev pub currency_key : Option Data → Result (List ℕ) KeyFault
 currency_key None = Ok (codes "USD")
-currency_key (Some d) = and_then (text_data d) (text_in (is_name_of 8 is_letter))
+currency_key (Some d) = and_then (text_data d) (text_in (is_name_of 8 is_latin_letter))
 
 -- a symbol's name has 1 to 32 visible characters, and is needed
 abbrev pub name_key : Option Data → Result (List ℕ) KeyFault

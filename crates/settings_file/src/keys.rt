@@ -5,7 +5,7 @@ ghost use Rattle.toml.specs.Data.{get_member};
 ghost use Rattle.toml.specs.View.{view, table_view, items_view};
 ghost use Rattle.market_types.specs.Ranges.{IsNameCharacter, IsSymbolName};
 ghost use Rattle.tester_settings.specs.Ranges.{IsLetter, IsCurrency};
-ghost use Rattle.settings_file.specs.Keys.{rule_of, map_ok, whole_in, whole_data, whole_key, whole_if_any, text_data, word_key, mode_of, period_of, account_of, expert_key, all_of, is_letter, is_visible, is_name_of, text_in, currency_key, name_key, text_key, list_key, table_data};
+ghost use Rattle.settings_file.specs.Keys.{rule_of, map_ok, whole_in, whole_data, whole_key, whole_if_any, text_data, word_key, mode_of, period_of, account_of, expert_key, all_of, is_latin_letter, is_visible, is_name_of, text_in, currency_key, name_key, text_key, list_key, table_data};
 
 use market_types::{Mode, Period};
 use tester_settings::Account;
@@ -217,8 +217,8 @@ pub(crate) fn expert_key(expert: Expert, value: Option<&Value>) -> Result<Option
     }
 }
 
-fn is_letter(b: u8) -> bool
-    ensures { result ≡ is_letter b }
+fn is_latin_letter(b: u8) -> bool
+    ensures { result ≡ is_latin_letter b }
 {
     b'A' <= b && b <= b'Z' || b'a' <= b && b <= b'z'
 }
@@ -231,12 +231,12 @@ fn is_visible(b: u8) -> bool
 
 #[tactic(auto, using(crate::proofs::Characters::letters_all))]
 fn all_letters(text: &[u8]) -> bool
-    ensures value { result ≡ all_of is_letter text.now }
+    ensures value { result ≡ all_of is_latin_letter text.now }
     ensures all { IsTrue result → All IsLetter text.now }
 {
     let mut rest = text;
     while let [b, tail @ ..] = rest {
-        if !is_letter(*b) {
+        if !is_latin_letter(*b) {
             return false;
         }
         rest = tail;
@@ -260,7 +260,7 @@ fn all_visible(text: &[u8]) -> bool
 }
 
 fn currency_of(text: &str) -> Result<&str, KeyFault>
-    ensures value { map_ok (λ s. s.now) result ≡ text_in (is_name_of 8 is_letter) text.now }
+    ensures value { map_ok (λ s. s.now) result ≡ text_in (is_name_of 8 is_latin_letter) text.now }
     ensures range { IfOk result (λ s. IsCurrency s.now) }
 {
     if 1 <= text.len() && text.len() <= 8 && all_letters(text.as_bytes()) {

@@ -14,6 +14,3 @@ mod unknown;
 pub use fault::SettingsFault;
 pub use keys::Expert;
 pub use settings::{SettingsFile, read_settings};
-
-#[cfg(test)]
-mod tests;

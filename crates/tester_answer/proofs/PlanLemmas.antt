@@ -6,7 +6,7 @@ use Rattle.std.proofs.lemmas.Bool.{lt-ltb, le-ltb}
 use Rattle.tester_io.specs.Outside.{Contents, FilesSeen, Rose}
 use Rattle.tester_answer.specs.declared.status.Status.{Status}
 use Rattle.tester_answer.specs.declared.status.Status.TheVariants.{Done, Usage, Source, Settings, Prices, CodeFile, Grid, Absent, ReadFault, WriteFault, TooLarge, OutOfMemory}
-use Rattle.tester_answer.specs.Answer.{Plan, Reads, Finds, Ends, AfterReading, Gives, Reaches, ReachesAfter, refusal}
+use Rattle.tester_answer.specs.Answer.{Plan, Reads, Finds, Ends, never, AfterReading, Gives, Reaches, ReachesAfter, refusal}
 use Rattle.tester_answer.specs.Clauses.{OnlyRead, IsReading, ReadingRefused, Refused, Never}
 
 rose_later : (before mid now : ℕ) → before ≤ mid → Rose mid now → Rose before now
@@ -57,7 +57,7 @@ pub leads_finding : (A : Type 0) (is : A → Type 0) (next : A → Plan) (told :
 leads_finding A is next told a h = record { gives = λ held i s text after g. (a, h, g); reaches = λ held i wanted g. (a, h, g) }
 
 -- a plan leads to one that is never reached
-pub leads_never : (plan : Plan) (told : Option Contents) → Leads plan (Ends (λ held s text after. ⊥)) told
+pub leads_never : (plan : Plan) (told : Option Contents) → Leads plan never told
 leads_never plan told = record { gives = λ held is s text after g. absurd g; reaches = λ held is wanted r. absurd r }
 
 -- readings that go on with plans of which each leads to the other's

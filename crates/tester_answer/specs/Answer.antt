@@ -26,6 +26,10 @@ pub data Plan : Type 1 where
 abbrev pub refuses : Status → Plan
 refuses status = Ends (refusal status)
 
+-- what is never reached
+abbrev pub never : Plan
+never = Ends (λ held s text after. ⊥)
+
 -- what follows a reading: a name that is not held and a file over the limit are refused
 abbrev pub AfterReading : List ℕ → ℕ → (List ℕ → Ending) → Option (List ℕ) → Ending
 AfterReading name limit next None held s text after = refusal (Absent name) held s text after

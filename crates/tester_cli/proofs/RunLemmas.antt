@@ -8,13 +8,16 @@ use Rattle.market_types.specs.declared.bar.Bar.{Bar}
 use Rattle.price_rows.specs.Files.{Judged, bars_of_file}
 use Rattle.tester_answer.specs.declared.status.Status.{Status}
 use Rattle.tester_answer.specs.declared.status.Status.TheVariants.{Done, Usage, Prices}
-use Rattle.tester_answer.specs.Answer.{Plan, Ends, Gives}
+use Rattle.tester_answer.specs.Answer.{Plan, Ends, Gives, never}
 use Rattle.tester_answer.specs.Clauses.{OnlyRead, ReadingRefused, Refused, Never, Has, Gained, Wrote, Began}
 use Rattle.tester_answer.proofs.PlanLemmas.{Leads, leads_on, refused_here, refused_on, only_read_same}
 use Rattle.tester_answer.specs.Answer.{OneEnd}
 use Rattle.tester_answer.proofs.OneEnd.{refuses_one, reads_one}
 use Rattle.tester_answer.specs.Answer.{refuses}
-use Rattle.tester_cli.specs.Commands.{with_bars, reports, quick_bars, quick_tree, quick_rest, quick_plan, quick_names, says, check_tree, check_plan, check_names, quotes_names, chosen, plan_of, price_limit}
+use Rattle.tester_cli.specs.declared.run.Command.{Command}
+use Rattle.tester_cli.specs.declared.run.Command.TheVariants.{Quick, Check, Quotes}
+use Rattle.tester_cli.specs.Commands.{with_bars, reports, quick_bars, quick_tree, quick_rest, quick_plan, says, check_tree, check_plan, command_of, with_one, with_two, plan_of_names, plan_of_command, plan_of}
+use Rattle.tester_market.specs.Reading.{price_limit}
 use Rattle.tester_market.proofs.QuotesPlan.{quotes_one}
 use Rattle.tester_cli.specs.Compiling.{IsProgramOf, ProgramRefused}
 use Rattle.stack_vm.specs.declared.code.Code.{Code}
@@ -25,7 +28,7 @@ use Rattle.mql_parse.specs.Parsed.{Parsing}
 use Rattle.mql_level.specs.Level.{program}
 use Rattle.mql_mean.specs.Talk.{MeansTalks}
 use Rattle.tester_cli.proofs.OneReport.{reports_once}
-use Rattle.tester_sources.specs.Reading.{Tokens, never, program_plan, ReadInTurn, OneAnswer}
+use Rattle.tester_sources.specs.Reading.{Tokens, program_plan, ReadInTurn, OneAnswer}
 use Rattle.tester_sources.specs.Judging.{tree_plan, OneTree}
 use Rattle.tester_sources.proofs.SourceLemmas.{read_leads}
 use Rattle.tester_sources.proofs.JudgeLemmas.{program_lead, tree_leads, form_leads, tree_refused, form_refused, program_one, tree_one, with_program_one}
@@ -55,31 +58,29 @@ module _ (one : OneAnswer) (alone : OneTree) (talks : MeansTalks) where
   check_one : (entry : List ℕ) → OneEnd (check_plan entry)
   check_one entry = program_one one entry (tree_plan entry check_tree) (λ sources tokens. tree_one alone entry sources tokens check_tree (λ tree. said_one (codes "ok" ++ 10 ∷ [])))
 
-  quick_names_one : (names : List (List ℕ)) → OneEnd (quick_names names)
-  quick_names_one [] = refuses_one (Usage 3)
-  quick_names_one (one ∷ []) = refuses_one (Usage 3)
-  quick_names_one (expert ∷ bars ∷ []) = quick_one expert bars
-  quick_names_one (a ∷ b ∷ c ∷ more) = refuses_one (Usage 3)
+  with_one_one : (command : Command) (name : List ℕ) → OneEnd (with_one command name)
+  with_one_one Quick name = refuses_one (Usage 3)
+  with_one_one Check name = check_one name
+  with_one_one Quotes name = quotes_one name
 
-  check_names_one : (names : List (List ℕ)) → OneEnd (check_names names)
-  check_names_one [] = refuses_one (Usage 3)
-  check_names_one (entry ∷ []) = check_one entry
-  check_names_one (a ∷ b ∷ more) = refuses_one (Usage 3)
+  with_two_one : (command : Command) (one other : List ℕ) → OneEnd (with_two command one other)
+  with_two_one Quick one other = quick_one one other
+  with_two_one Check one other = refuses_one (Usage 3)
+  with_two_one Quotes one other = refuses_one (Usage 3)
 
-  quotes_names_one : (names : List (List ℕ)) → OneEnd (quotes_names names)
-  quotes_names_one [] = refuses_one (Usage 3)
-  quotes_names_one (settings ∷ []) = quotes_one settings
-  quotes_names_one (a ∷ b ∷ more) = refuses_one (Usage 3)
+  names_one : (command : Command) (names : List (List ℕ)) → OneEnd (plan_of_names command names)
+  names_one command [] = refuses_one (Usage 3)
+  names_one command (name ∷ []) = with_one_one command name
+  names_one command (one ∷ other ∷ []) = with_two_one command one other
+  names_one command (one ∷ other ∷ more ∷ most) = refuses_one (Usage 3)
+
+  command_one : (command : Option Command) (names : List (List ℕ)) → OneEnd (plan_of_command command names)
+  command_one None names = refuses_one (Usage 2)
+  command_one (Some command) names = names_one command names
 
   pub plan_one : (words : List (List ℕ)) → OneEnd (plan_of words)
   plan_one [] = refuses_one (Usage 2)
-  plan_one (command ∷ names) = of_test (bytes_eq command (codes "quick")) (bytes_eq command (codes "check")) (bytes_eq command (codes "quotes"))
-    where
-      of_test : (b c d : Bool) → OneEnd (chosen b (quick_names names) (chosen c (check_names names) (chosen d (quotes_names names) (refuses (Usage 2)))))
-      of_test true c d = quick_names_one names
-      of_test false true d = check_names_one names
-      of_test false false true = quotes_names_one names
-      of_test false false false = refuses_one (Usage 2)
+  plan_one (word ∷ names) = command_one (command_of word) names
 
 -- the reading of the bars is refused
 pub bars_refused : (bars : List ℕ) (checked : Checked) (before now : FilesSeen) (status : Status) (name : List ℕ) → name ≡ bars → ReadingRefused name price_limit before now status → Refused Never (quick_bars bars checked) before now status
@@ -132,15 +133,3 @@ wrote plan text before now sink_before sink_now has read gained held told =
 pub began : (plan : Plan) (text : List ℕ) (before now : FilesSeen) (sink_before sink_now : SinkSeen) → Has plan before text → OnlyRead before now → (k : ℕ) × Gained (take k text) sink_before sink_now → Began plan before now sink_before sink_now
 began plan text before now sink_before sink_now has read (k, gained) held told =
     record { text = text; after = held; gives = has held told; kept = read.told ∙ told; part = k; grew = gained }
-
--- a wrong number of names
-pub quick_usage : (names : List (List ℕ)) → (length names ≡ 2 → ⊥) → (held : Contents) → Gives (quick_names names) held (Usage 3) [] held
-quick_usage [] h held = (refl, refl, refl)
-quick_usage (a ∷ []) h held = (refl, refl, refl)
-quick_usage (a ∷ b ∷ []) h held = absurd (h refl)
-quick_usage (a ∷ b ∷ c ∷ more) h held = (refl, refl, refl)
-
-pub check_usage : (names : List (List ℕ)) → (length names ≡ 1 → ⊥) → (held : Contents) → Gives (check_names names) held (Usage 3) [] held
-check_usage [] h held = (refl, refl, refl)
-check_usage (a ∷ []) h held = absurd (h refl)
-check_usage (a ∷ b ∷ more) h held = (refl, refl, refl)

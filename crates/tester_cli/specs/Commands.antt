@@ -1,5 +1,5 @@
 -- What each command does. Own.
-use Rattle.std.specs.Prelude.{◌≡◌, ℕ, Bool, true, false, map, String, List, [], ◌∷◌, ◌++◌, Some, None, Ok, Err, codes}
+use Rattle.std.specs.Prelude.{◌≡◌, ℕ, Bool, true, false, map, String, List, [], ◌∷◌, ◌++◌, Option, Some, None, Ok, Err, codes, if◌then◌else◌}
 use Rattle.std.specs.Str.{bytes_eq}
 use Rattle.std.specs.String.{string_bytes}
 use Rattle.std.specs.declared.string.String.{String}
@@ -10,6 +10,8 @@ use Rattle.market_types.specs.declared.period.Period.TheVariants.{M1}
 use Rattle.price_rows.specs.Files.{Judged, bars_of_file}
 use Rattle.market_data.specs.Quotes.{bar_quotes, heard}
 use Rattle.tester_cli.specs.declared.result.PassResult.{PassResult}
+use Rattle.tester_cli.specs.declared.run.Command.{Command}
+use Rattle.tester_cli.specs.declared.run.Command.TheVariants.{Quick, Check, Quotes}
 use Rattle.tester_answer.specs.declared.status.Status.TheVariants.{Done, Usage, Prices}
 use Rattle.tester_answer.specs.Answer.{Ending, Plan, Reads, Ends, refuses}
 use Rattle.mql_tree.specs.declared.token.Tree.{Tree}
@@ -17,13 +19,10 @@ use Rattle.mql_level.specs.Level.{program}
 use Rattle.mql_preproc.specs.declared.source.Source.{Source}
 use Rattle.tester_sources.specs.Reading.{Tokens, program_plan}
 use Rattle.tester_sources.specs.Judging.{tree_plan, with_program}
+use Rattle.tester_market.specs.Reading.{price_limit}
 use Rattle.tester_market.specs.Quotes.{quotes_plan}
 use Rattle.tester_cli.specs.Pass.{Passes}
 use Rattle.tester_cli.specs.Report.{IsReport}
-
--- the most bytes of a price file, 512 MiB
-abbrev pub price_limit : ℕ
-price_limit = 536870912
 
 -- the bars of a file, or its first row that breaks a rule, with the first rule that it breaks
 abbrev pub with_bars : List ℕ → Judged Bar → (List Bar → Plan) → Plan
@@ -70,31 +69,38 @@ check_tree sources tokens tree = Ends (says (codes "ok" ++ 10 ∷ []))
 abbrev pub check_plan : List ℕ → Plan
 check_plan entry = program_plan entry (tree_plan entry check_tree)
 
--- the names that the commands take
-abbrev pub quick_names : List (List ℕ) → Plan
-quick_names (expert ∷ bars ∷ []) = quick_plan expert bars
-quick_names names = refuses (Usage 3)
+-- the command of a word
+unfoldable pub command_of : List ℕ → Option Command
+command_of word = if bytes_eq word (codes "quick") then Some Quick
+    else if bytes_eq word (codes "check") then Some Check
+    else if bytes_eq word (codes "quotes") then Some Quotes else None
 
-abbrev pub check_names : List (List ℕ) → Plan
-check_names (entry ∷ []) = check_plan entry
-check_names names = refuses (Usage 3)
+-- what a command does with one name, and with two
+abbrev pub with_one : Command → List ℕ → Plan
+with_one Quick name = refuses (Usage 3)
+with_one Check source = check_plan source
+with_one Quotes settings = quotes_plan settings
 
-abbrev pub quotes_names : List (List ℕ) → Plan
-quotes_names (settings ∷ []) = quotes_plan settings
-quotes_names names = refuses (Usage 3)
+abbrev pub with_two : Command → List ℕ → List ℕ → Plan
+with_two Quick expert bars = quick_plan expert bars
+with_two Check one other = refuses (Usage 3)
+with_two Quotes one other = refuses (Usage 3)
 
-abbrev pub chosen : Bool → Plan → Plan → Plan
-chosen true a b = a
-chosen false a b = b
+-- what a command does with these names: a wrong number of them breaks usage rule 3
+abbrev pub plan_of_names : Command → List (List ℕ) → Plan
+plan_of_names command [] = refuses (Usage 3)
+plan_of_names command (name ∷ []) = with_one command name
+plan_of_names command (one ∷ other ∷ []) = with_two command one other
+plan_of_names command (one ∷ other ∷ more ∷ most) = refuses (Usage 3)
 
--- what the words of a command line do: no command or an unknown one breaks usage rule 2, a wrong number of
--- names rule 3
+abbrev pub plan_of_command : Option Command → List (List ℕ) → Plan
+plan_of_command None names = refuses (Usage 2)
+plan_of_command (Some command) names = plan_of_names command names
+
+-- what the words of a command line do: no command or an unknown one breaks usage rule 2
 abbrev pub plan_of : List (List ℕ) → Plan
 plan_of [] = refuses (Usage 2)
-plan_of (command ∷ names) =
-    chosen (bytes_eq command (codes "quick")) (quick_names names)
-    (chosen (bytes_eq command (codes "check")) (check_names names)
-    (chosen (bytes_eq command (codes "quotes")) (quotes_names names) (refuses (Usage 2))))
+plan_of (word ∷ names) = plan_of_command (command_of word) names
 
 -- the words of a command line as bytes
 abbrev pub words_of : {A : Type 0} → List (String A) → List (List ℕ)

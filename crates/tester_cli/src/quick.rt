@@ -20,10 +20,8 @@ use std::alloc::Global;
 use tester_answer::Status;
 use tester_answer::outside::read;
 use tester_io::Files;
+use tester_market::PRICE_LIMIT;
 use tester_sources::read_sources;
-
-/// The most bytes of a price file.
-const PRICE_LIMIT: u64 = 536_870_912;
 
 // A name as bytes.
 pub fn named(alloc: Global, name: &str) -> Result<Text8, OutOfMemory>

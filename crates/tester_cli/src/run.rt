@@ -1,7 +1,7 @@
 //! The top call.
 ghost use Rattle.std.specs.Prelude.{◌≡◌, IfOk, IfErr};
 ghost use Rattle.tester_answer.specs.Clauses.{OnlyRead, Has, RefusedBy, IsRefused, AtJudgement, AtUnread, Wrote, Unwritten, NoMemory, Completes};
-ghost use Rattle.tester_cli.specs.Commands.{quick_names, check_names, quotes_names, plan_of, words_of};
+ghost use Rattle.tester_cli.specs.Commands.{command_of, plan_of_names, plan_of, words_of};
 
 use crate::check::check;
 use crate::quick::quick;
@@ -15,55 +15,59 @@ use tester_answer::outside::write_whole;
 use tester_io::{Files, Sink, WriteError};
 use tester_market::quotes;
 
-// What `quick` writes of these names, or why it writes nothing.
-fn run_quick<F: Files>(alloc: Global, names: &[String], files: &mut F) -> Result<Text8, Status>
-    ensures only_read { OnlyRead (F.seen files.old) (F.seen files.new) }
-    ensures ready { IfOk result (Has (quick_names (words_of names.now)) (F.seen files.old)) }
-    ensures refused { IfErr result (RefusedBy (quick_names (words_of names.now)) (F.seen files.old)
-        (F.seen files.new)) }
+/// The commands.
+#[derive(Clone, Copy, Debug, PartialEq, Eq)]
+pub enum Command {
+    Quick,
+    Check,
+    Quotes,
+}
+
+// The command of a word.
+#[tactic(auto, unfolding(crate::specs::Commands::command_of))]
+fn command_of(word: &str) -> Option<Command>
+    ensures { result ≡ command_of word.now }
 {
-    if names.len() != 2 {
-        return Err(Status::Usage(3));
+    if word == "quick" {
+        return Some(Command::Quick);
     }
+    if word == "check" {
+        return Some(Command::Check);
+    }
+    if word == "quotes" {
+        return Some(Command::Quotes);
+    }
+    None
+}
+
+// What a command writes of these names, or why it writes nothing.
+fn run_names<F: Files>(
+    alloc: Global,
+    command: Command,
+    names: &[String],
+    files: &mut F,
+) -> Result<Text8, Status>
+    ensures only_read { OnlyRead (F.seen files.old) (F.seen files.new) }
+    ensures ready { IfOk result (Has (plan_of_names command (words_of names.now)) (F.seen files.old)) }
+    ensures refused { IfErr result (RefusedBy (plan_of_names command (words_of names.now))
+        (F.seen files.old) (F.seen files.new)) }
+{
     match names {
-        [expert, bars] => quick(alloc, expert.as_str(), bars.as_str(), files),
-        _ => unreachable!(),
+        [name] => match command {
+            Command::Quick => Err(Status::Usage(3)),
+            Command::Check => check(alloc, name.as_str(), files),
+            Command::Quotes => quotes(alloc, name.as_str(), files),
+        },
+        [expert, bars] => match command {
+            Command::Quick => quick(alloc, expert.as_str(), bars.as_str(), files),
+            Command::Check => Err(Status::Usage(3)),
+            Command::Quotes => Err(Status::Usage(3)),
+        },
+        _ => Err(Status::Usage(3)),
     }
 }
 
-// What `check` writes of these names, or why it writes nothing.
-fn run_check<F: Files>(alloc: Global, names: &[String], files: &mut F) -> Result<Text8, Status>
-    ensures only_read { OnlyRead (F.seen files.old) (F.seen files.new) }
-    ensures ready { IfOk result (Has (check_names (words_of names.now)) (F.seen files.old)) }
-    ensures refused { IfErr result (RefusedBy (check_names (words_of names.now)) (F.seen files.old)
-        (F.seen files.new)) }
-{
-    if names.len() != 1 {
-        return Err(Status::Usage(3));
-    }
-    match names {
-        [source] => check(alloc, source.as_str(), files),
-        _ => unreachable!(),
-    }
-}
-
-// What `quotes` writes of these names, or why it writes nothing.
-fn run_quotes<F: Files>(alloc: Global, names: &[String], files: &mut F) -> Result<Text8, Status>
-    ensures only_read { OnlyRead (F.seen files.old) (F.seen files.new) }
-    ensures ready { IfOk result (Has (quotes_names (words_of names.now)) (F.seen files.old)) }
-    ensures refused { IfErr result (RefusedBy (quotes_names (words_of names.now)) (F.seen files.old)
-        (F.seen files.new)) }
-{
-    if names.len() != 1 {
-        return Err(Status::Usage(3));
-    }
-    match names {
-        [settings] => quotes(alloc, settings.as_str(), files),
-        _ => unreachable!(),
-    }
-}
-
-// What a command writes, or why it writes nothing.
+// What a command line writes, or why it writes nothing.
 fn prepare<F: Files>(alloc: Global, words: &[String], files: &mut F) -> Result<Text8, Status>
     ensures only_read { OnlyRead (F.seen files.old) (F.seen files.new) }
     ensures ready { IfOk result (Has (plan_of (words_of words.now)) (F.seen files.old)) }
@@ -72,18 +76,10 @@ fn prepare<F: Files>(alloc: Global, words: &[String], files: &mut F) -> Result<T
 {
     match words {
         [] => Err(Status::Usage(2)),
-        [command, names @ ..] => {
-            if command.as_str() == "quick" {
-                return run_quick(alloc, names, files);
-            }
-            if command.as_str() == "check" {
-                return run_check(alloc, names, files);
-            }
-            if command.as_str() == "quotes" {
-                return run_quotes(alloc, names, files);
-            }
-            Err(Status::Usage(2))
-        }
+        [word, names @ ..] => match command_of(word.as_str()) {
+            None => Err(Status::Usage(2)),
+            Some(command) => run_names(alloc, command, names, files),
+        },
     }
 }
 

@@ -14,11 +14,11 @@ use Rattle.settings_file.specs.Settings.{AreSettingsOf}
 use Rattle.settings_file.proofs.OneAnswer.{one_answer}
 use Rattle.tester_answer.specs.declared.status.Status.{Status}
 use Rattle.tester_answer.specs.declared.status.Status.TheVariants as status
-use Rattle.tester_answer.specs.Answer.{Plan, Reads, Finds, Gives, OneEnd, refuses}
+use Rattle.tester_answer.specs.Answer.{Plan, Reads, Finds, Gives, OneEnd, refuses, never}
 use Rattle.tester_answer.specs.Clauses.{OnlyRead, IsReading, ReadingRefused, Refused, Never}
 use Rattle.tester_answer.proofs.PlanLemmas.{Leads, leads_same, leads_on, leads_reading, leads_finding, leads_never, leads_both_read, leads_both_find, refused_here, refused_on, only_read_same}
 use Rattle.tester_answer.proofs.OneEnd.{refuses_one, reads_one, finds_one}
-use Rattle.tester_market.specs.Reading.{settings_limit, price_limit, never, with_settings, settings_plan, rows_of, with_rows, rows_plan, listed_plan, market_plan, HasSettings, HasRows, HasMarket, SettingsStatus, RowsStatus}
+use Rattle.tester_market.specs.Reading.{settings_limit, price_limit, with_settings, settings_plan, rows_of, with_rows, rows_plan, listed_plan, market_plan, HasSettings, HasRows, HasMarket, SettingsStatus, RowsStatus}
 
 with_any : (answer : Result SettingsFile Broken) (next : SettingsFile → Plan) (told : Option Contents) → Leads (with_settings answer next) (with_settings answer (λ file. never)) told
 with_any (Ok file) next told = leads_never (next file) told

@@ -7,11 +7,11 @@ use Rattle.settings_file.specs.declared.keys.Expert.TheVariants.{NotNeeded}
 use Rattle.settings_file.specs.declared.settings.SettingsFile.{SettingsFile}
 use Rattle.tester_answer.specs.declared.status.Status.{Status}
 use Rattle.tester_answer.specs.declared.status.Status.TheVariants.{Done}
-use Rattle.tester_answer.specs.Answer.{Ends, OneEnd}
+use Rattle.tester_answer.specs.Answer.{Ends, OneEnd, never}
 use Rattle.tester_answer.specs.Clauses.{OnlyRead, Has, Refused, Never}
 use Rattle.tester_answer.proofs.PlanLemmas.{leads_on, refused_on, only_read_same}
 use Rattle.report.proofs.OneText.{one_text}
-use Rattle.tester_market.specs.Reading.{settings_plan, market_plan, never, HasSettings, HasMarket}
+use Rattle.tester_market.specs.Reading.{settings_plan, market_plan, HasSettings, HasMarket}
 use Rattle.tester_market.specs.Quotes.{writes_quotes, quotes_plan}
 use Rattle.tester_market.proofs.Plans.{settings_any, settings_lead, market_any, market_lead, settings_one, market_one}
 

@@ -18,7 +18,7 @@ use Rattle.settings_file.specs.Settings.{AreSettingsOf}
 use Rattle.tester_io.specs.Outside.{Contents}
 use Rattle.tester_answer.specs.declared.status.Status.{Status}
 use Rattle.tester_answer.specs.declared.status.Status.TheVariants as status
-use Rattle.tester_answer.specs.Answer.{Plan, Reads, Finds, Ends, refuses}
+use Rattle.tester_answer.specs.Answer.{Plan, Reads, Finds, refuses}
 use Rattle.tester_answer.specs.Clauses.{IsReading}
 
 -- the most bytes of a settings file, 1 MiB, and of a price file, 512 MiB
@@ -27,10 +27,6 @@ settings_limit = 1048576
 
 abbrev pub price_limit : ℕ
 price_limit = 536870912
-
--- what is never reached
-abbrev pub never : Plan
-never = Ends (λ held s text after. ⊥)
 
 -- goes on with settings, or refuses them by the rule that they break
 abbrev pub with_settings : Result SettingsFile Broken → (SettingsFile → Plan) → Plan

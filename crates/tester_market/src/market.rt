@@ -2,7 +2,8 @@
 ghost use Rattle.std.specs.Prelude.{◌≡◌, length, IfOk, IfErr};
 ghost use Rattle.tester_answer.specs.Clauses.{OnlyRead, Refused, Never};
 ghost use Rattle.tester_settings.specs.Ranges.{AreSettings};
-ghost use Rattle.tester_market.specs.Reading.{HasMarket, market_plan, never};
+ghost use Rattle.tester_market.specs.Reading.{HasMarket, market_plan};
+ghost use Rattle.tester_answer.specs.Answer.{never};
 
 use crate::reading::read_rows;
 use fx8::{OutOfMemory, Text8};

@@ -4,7 +4,8 @@ ghost use Rattle.tester_answer.specs.Clauses.{OnlyRead, Refused, Never};
 ghost use Rattle.tester_settings.specs.Ranges.{AreSettings};
 ghost use Rattle.settings_file.specs.Settings.{AreSettingsOf};
 ghost use Rattle.market_data.specs.Markets.{AreRows};
-ghost use Rattle.tester_market.specs.Reading.{HasSettings, HasRows, SettingsStatus, RowsStatus, settings_plan, rows_plan, rows_of, row_status, never};
+ghost use Rattle.tester_market.specs.Reading.{HasSettings, HasRows, SettingsStatus, RowsStatus, settings_plan, rows_plan, rows_of, row_status};
+ghost use Rattle.tester_answer.specs.Answer.{never};
 
 use fx8::Text8;
 use market_types::{Mode, Rows};

@@ -9,12 +9,12 @@ use Rattle.mql_level.specs.Level.{program}
 use Rattle.mql_mean.specs.declared.tree.Checked.{Checked}
 use Rattle.tester_answer.specs.declared.status.Status.{Status}
 use Rattle.tester_answer.specs.declared.status.Status.TheVariants as status
-use Rattle.tester_answer.specs.Answer.{Plan, Gives}
+use Rattle.tester_answer.specs.Answer.{Plan, Gives, never}
 use Rattle.tester_answer.specs.Clauses.{Refused, Never}
 use Rattle.tester_answer.proofs.PlanLemmas.{Leads, leads_same, leads_finding}
 use Rattle.tester_answer.specs.Answer.{OneEnd}
 use Rattle.tester_answer.proofs.OneEnd.{refuses_one, finds_one}
-use Rattle.tester_sources.specs.Reading.{Tokens, never, program_plan, OneAnswer}
+use Rattle.tester_sources.specs.Reading.{Tokens, program_plan, OneAnswer}
 use Rattle.tester_sources.specs.Judging.{with_tree, tree_plan, with_program, TreeRefused, FormRefused, OneTree}
 use Rattle.tester_sources.proofs.SourceLemmas.{sources_lead, sources_one}
 use Rattle.mql_source.specs.Limits.{most_files}

@@ -16,13 +16,13 @@ use Rattle.mql_preproc.specs.Resume.{Stands}
 use Rattle.mql_preproc.specs.Onward.{Ends as EndsReading, Fits}
 use Rattle.tester_answer.specs.declared.status.Status.{Status}
 use Rattle.tester_answer.specs.declared.status.Status.TheVariants as status
-use Rattle.tester_answer.specs.Answer.{Plan, Reads, Finds, Ends, refuses}
+use Rattle.tester_answer.specs.Answer.{Plan, Reads, Finds, Ends, refuses, never}
 use Rattle.tester_answer.specs.Clauses.{OnlyRead, IsReading, ReadingRefused, Refused, Never}
 use Rattle.tester_answer.proofs.PlanLemmas.{Leads, leads_same, leads_on, leads_reading, leads_finding, leads_never, leads_both_read, leads_both_find, refused_here, refused_on}
 use Rattle.tester_answer.specs.Answer.{OneEnd}
 use Rattle.tester_answer.proofs.OneEnd.{refuses_one, reads_one, finds_one}
 use Rattle.tester_sources.specs.Faults.{text_fault, source_fault, TellsFault, TellsText, TellsPreFault, TellsRefusal}
-use Rattle.tester_sources.specs.Reading.{source_limit, Tokens, source, never, with_text, with_tokens, sources_plan, program_plan, ReadInTurn, none, needed, NeedMet, MayGoOn, Refusing, FilesRefused, TextRefused, file_plan, OneAnswer}
+use Rattle.tester_sources.specs.Reading.{source_limit, Tokens, source, with_text, with_tokens, sources_plan, program_plan, ReadInTurn, none, needed, NeedMet, MayGoOn, Refusing, FilesRefused, TextRefused, file_plan, OneAnswer}
 use Rattle.mql_source.specs.Limits.{most_files}
 
 -- with a text that is there

@@ -21,7 +21,7 @@ use Rattle.tester_sources.specs.declared.reading.Turned.TheVariants as turns
 use Rattle.mql_preproc.specs.declared.state.Reading.{Reading}
 use Rattle.mql_preproc.specs.Resume.{Stands}
 use Rattle.mql_preproc.specs.Onward.{Fits}
-use Rattle.tester_answer.specs.Answer.{Plan, Reads, Finds, Ends, refuses}
+use Rattle.tester_answer.specs.Answer.{Plan, Reads, Finds, refuses, never}
 use Rattle.tester_sources.specs.Faults.{text_fault, source_fault}
 use Rattle.mql_source.specs.Limits.{most_files, most_tokens, most_units}
 
@@ -36,10 +36,6 @@ Tokens = List (token.Token × Span)
 -- a file with its text
 abbrev pub source : List ℕ → List ℕ → Source
 source name text = record { name = name; text = text }
-
--- what is never reached
-abbrev pub never : Plan
-never = Ends (λ held s text after. ⊥)
 
 -- goes on with a text, or refuses it by stage 1
 abbrev pub with_text : List ℕ → Result (List ℕ) TextFault → (List ℕ → Plan) → Plan

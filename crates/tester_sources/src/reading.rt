@@ -7,7 +7,8 @@ ghost use Rattle.mql_preproc.specs.Resume.{Stands};
 ghost use Rattle.mql_preproc.specs.Onward.{Fits};
 ghost use Rattle.tester_io.specs.Outside.{WhereTold};
 ghost use Rattle.tester_answer.specs.Clauses.{OnlyRead, Refused, Never};
-ghost use Rattle.tester_sources.specs.Reading.{IsSource, IsWanted, FewTokens, FilesRefused, TextRefused, MayGoOn, IsNext, IsTurn, ReadInTurn, file_plan, sources_plan, program_plan, never};
+ghost use Rattle.tester_sources.specs.Reading.{IsSource, IsWanted, FewTokens, FilesRefused, TextRefused, MayGoOn, IsNext, IsTurn, ReadInTurn, file_plan, sources_plan, program_plan};
+ghost use Rattle.tester_answer.specs.Answer.{never};
 ghost use Rattle.mql_source.specs.Limits.{most_tokens, most_units};
 
 use crate::fault::{fault_status, refusal, text_status};

@@ -1,5 +1,4 @@
 use Rattle.std.proofs.Common.{◌≡◌, sym, subst, ◌∙◌, Ok, Err}
-use Rattle.std.proofs.lemmas.List.{nil_from_length}
 use Rattle.mql_preproc.specs.declared.fault.PreFault.TheVariants.{Need}
 use Rattle.mql_preproc.specs.Reading.{Goes, Includes}
 use Rattle.mql_preproc.specs.Onward.{Ends, Further, Entering, LeftLeads, IsPaused}

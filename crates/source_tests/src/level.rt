@@ -3,10 +3,9 @@
 //! A tree is spelled by words: `[9` begins a node of form 9, `]` ends it, `|` ends a line, `@7` is a leaf of
 //! the place 7, `5u` is a number of another kind, and every other word is a token.
 
-use crate::scope::short;
-use crate::{LevelFault, read_level};
 use fx8::{Fix8, IntKind, ItemList, Text};
 use mql_forms::Form;
+use mql_level::{LevelFault, read_level};
 use mql_mean::{Checked, Expression, Operator, Statement};
 use mql_spelling::SIGNS;
 use mql_tree::{Span, Token, Tokens, Tree, TreeList};
@@ -76,7 +75,7 @@ fn built(alloc: Global, words: &str) -> Result<(Tokens, Tree), Fail> {
             let token = place.parse::<u32>().ok().ok_or("a place")?;
             parts.push(Tree::Leaf { token })?;
         } else {
-            let place = short(tokens.len())?;
+            let place = u32::try_from(tokens.len()).ok().ok_or("too many tokens")?;
             let span = Span {
                 file: 0,
                 line,

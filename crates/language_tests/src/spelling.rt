@@ -1,10 +1,10 @@
 //! What spellings there are, and that a call with memory answers Ok.
-use crate::{
+use fx8::Text;
+use mql_source::MOST_UNITS;
+use mql_spelling::{
     Lexeme, Mode, Quote, ReservedWord, SIGNS, Sign, color_value, date_value, longest, real_value,
     reserved_word, spelled_text,
 };
-use fx8::Text;
-use mql_source::MOST_UNITS;
 use std::alloc::Global;
 use std::test::Fail;
 

@@ -1,6 +1,6 @@
 //! Worked documents.
 
-use crate::{Expert, SettingsFault, SettingsFile, read_settings};
+use settings_file::{Expert, SettingsFault, SettingsFile, read_settings};
 use std::alloc::Global;
 use std::test::Fail;
 

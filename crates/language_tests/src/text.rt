@@ -1,6 +1,6 @@
 //! Worked cases, and that a call with memory answers Ok.
-use crate::{TextFault, Token, lex, text_of_bytes};
 use mql_source::MOST_UNITS;
+use mql_tree::{TextFault, Token, lex, text_of_bytes};
 use std::alloc::Global;
 use std::test::Fail;
 

@@ -1,10 +1,10 @@
 //! Worked files.
 
-use crate::{RowFault, read_bars, read_ticks};
 use fx8::Fix8;
 use jiff::Timestamp;
 use jiff::tz::Offset;
 use market_types::{Bar, BarList, Tick};
+use price_rows::{RowFault, read_bars, read_ticks};
 use std::alloc::Global;
 use std::test::Fail;
 

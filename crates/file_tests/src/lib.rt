@@ -1,0 +1,7 @@
+//! Tests of the files that a test reads beside its sources: prices and settings.
+#![tactic(auto)]
+
+#[cfg(test)]
+mod prices;
+#[cfg(test)]
+mod settings;
