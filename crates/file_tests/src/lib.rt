@@ -4,4 +4,6 @@
 #[cfg(test)]
 mod prices;
 #[cfg(test)]
+mod quotes;
+#[cfg(test)]
 mod settings;

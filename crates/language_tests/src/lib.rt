@@ -8,6 +8,8 @@ mod lowering;
 #[cfg(test)]
 mod macros;
 #[cfg(test)]
+mod natives;
+#[cfg(test)]
 mod spelling;
 #[cfg(test)]
 mod text;

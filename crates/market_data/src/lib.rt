@@ -11,6 +11,3 @@ pub use market_types::{
 };
 pub use price_rows::{RowFault, read_bars, read_ticks};
 pub use quotes::Quotes;
-
-#[cfg(test)]
-mod tests;

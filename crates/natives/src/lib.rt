@@ -9,8 +9,6 @@ mod short_name;
 mod signature;
 mod signatures;
 mod supplied;
-#[cfg(test)]
-mod tests;
 mod types;
 
 pub use constant::{CONSTANTS, Constant, constant_named, constants_by_spelling};

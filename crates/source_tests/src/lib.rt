@@ -11,3 +11,5 @@ mod order;
 mod parsing;
 #[cfg(test)]
 mod preprocessing;
+#[cfg(test)]
+mod trees;

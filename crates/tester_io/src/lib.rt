@@ -8,8 +8,6 @@ mod memory;
 mod memory_sink;
 mod outside;
 mod shelf;
-#[cfg(test)]
-mod tests;
 
 pub use calm::{CalmFiles, CalmSink};
 pub use disk::{DiskFiles, OutSink};

@@ -1,10 +1,10 @@
 //! Worked cases: what each call answers, and that a call with memory answers Ok.
-use crate::{
-    CalmFiles, CalmSink, DiskFiles, FileFault, Files, MemFiles, MemSink, OutSink, Sink, WriteError,
-};
 use fx8::{Numbers, Text8};
 use std::alloc::Global;
 use std::test::Fail;
+use tester_io::{
+    CalmFiles, CalmSink, DiskFiles, FileFault, Files, MemFiles, MemSink, OutSink, Sink, WriteError,
+};
 
 /// What a reading of three bytes answers: the length, or the fault.
 fn read_length<F: Files>(files: &mut F, name: &Text8, limit: u64) -> Result<u64, FileFault> {

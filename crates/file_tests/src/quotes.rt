@@ -2,8 +2,8 @@
 ghost use Rattle.std.specs.Prelude.{IfOk};
 ghost use Rattle.market_types.specs.Ranges.{IsSpec};
 
-use crate::{Market, Mode, Period, Quotes, Rows, SymbolSpec, read_bars, read_ticks};
 use fx8::{OutOfMemory, Text8};
+use market_data::{Market, Mode, Period, Quotes, Rows, SymbolSpec, read_bars, read_ticks};
 use std::alloc::Global;
 use std::test::Fail;
 

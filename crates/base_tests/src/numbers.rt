@@ -1,6 +1,6 @@
 //! Worked values.
 
-use crate::{Fix8, FixFault, Text8, Tickets};
+use fx8::{Fix8, FixFault, Text8, Tickets};
 use std::process::Abort;
 
 /// What a call gives, in units of 10^-8.

@@ -1,6 +1,6 @@
 //! Entries of the tables by hand, from the MQL5 Reference.
-use crate::{Native, constant_named, named, predefined_named, supplied_named};
 use fx8::Text;
+use natives::{Native, constant_named, named, predefined_named, supplied_named};
 use std::alloc::Global;
 use std::test::Fail;
 

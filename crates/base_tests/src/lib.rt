@@ -1,0 +1,7 @@
+//! Tests of numbers and of the outside.
+#![tactic(auto)]
+
+#[cfg(test)]
+mod numbers;
+#[cfg(test)]
+mod outside;
