@@ -100,6 +100,6 @@ pub fn predefined_named(units: &[u16]) -> Option<Predefined>
 
 /// A text is a predefined name exactly where it is that name's spelling.
 pub fn predefineds_by_spelling()
-    ensures { (units : List ℕ) (predefined : predefineds.Predefined) → (predefined_named units ≡ Some predefined)
-        ↔ (units ≡ predefined_spelling predefined) }
+    ensures { (units : List ℕ) (predefined : predefineds.Predefined)
+        → (predefined_named units ≡ Some predefined) ↔ (units ≡ predefined_spelling predefined) }
 {}

@@ -107,7 +107,8 @@ pub enum Evaluation {
     Store,
     /// When the source is compiled.
     Compiler,
-    /// By the world: clock, prices, account, generator of `MathRand`, prints, the last error and the run itself.
+    /// By the world: clock, prices, account, generator of `MathRand`, prints, the last error and the run
+    /// itself.
     World,
 }
 

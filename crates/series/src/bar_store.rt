@@ -90,7 +90,8 @@ impl BarStore {
     pub(crate) fn take(&mut self, period: Period, digits: u8, quote: &Quote)
         requires quote { IsQuote quote.now }
         requires room { 1 ≤ self.old.spare }
-        requires volumes { FitsWith digits quote.now self.old.traded (newest_of period quote.now self.old.bars) }
+        requires volumes { FitsWith digits quote.now self.old.traded
+            (newest_of period quote.now self.old.bars) }
         ensures { history_of self.new ≡ with_quote period digits quote.now (history_of self.old) }
     {
         match self.newest(period, quote) {

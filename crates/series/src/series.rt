@@ -57,7 +57,8 @@ impl Model for Series {
 fn take(symbols: &mut Vec<SymbolBars>, quote: &Quote) -> Result<(), OutOfMemory>
     requires symbol { quote.now.symbol < length symbols.old.items }
     requires quote { IsQuote quote.now }
-    requires volumes { (none : Histories) → FitEach quote.now (slice_index_or (map histories symbols.old.items) quote.now.symbol none) }
+    requires volumes { (none : Histories)
+        → FitEach quote.now (slice_index_or (map histories symbols.old.items) quote.now.symbol none) }
     ensures taken { OnOk result ((none : Histories) → map histories symbols.new.items
         ≡ slice_set (map histories symbols.old.items) quote.now.symbol
         (with_quote_each quote.now (slice_index_or (map histories symbols.old.items) quote.now.symbol none))) }
@@ -105,7 +106,8 @@ impl Series {
     pub fn push(&mut self, quote: &Quote) -> Result<(), OutOfMemory>
         requires symbol { quote.now.symbol < length self.old.symbols }
         requires quote { IsQuote quote.now }
-        requires volumes { (quotes : List Quote) × StandsFor self.old quotes × HaveVolumesOf self.old (quotes ++ quote.now ∷ []) }
+        requires volumes { (quotes : List Quote) × StandsFor self.old quotes
+            × HaveVolumesOf self.old (quotes ++ quote.now ∷ []) }
         ensures taken { OnOk result ((quotes : List Quote) → StandsFor self.old quotes
             → StandsFor self.new (quotes ++ quote.now ∷ [])) }
         ensures digits { digits self.new ≡ digits self.old }
@@ -155,7 +157,8 @@ impl Series {
         out: &mut BarList,
     ) -> Result<(), SeriesFault>
         ensures { (quotes : List Quote) → StandsFor self.now quotes
-            → Fills (copied start count (told_bars (digits self.now) symbol period quotes)) out.old result out.new }
+            → Fills (copied start count (told_bars (digits self.now) symbol period quotes))
+            out.old result out.new }
     {
         copy_bars(self.alloc, self.told(symbol, period), start, count, out)
     }
@@ -186,7 +189,8 @@ impl Series {
     /// of range, `TooMany` exactly where 64 others are held. A refused call changes nothing.
     pub fn indicator(&mut self, spec: IndicatorSpec) -> Result<u32, SeriesFault>
         ensures { (quotes : List Quote) → StandsFor self.old quotes
-            → Numbers (asked (judged (digits self.old) spec) spec (bars_before (digits self.old) spec quotes) self.old.held)
+            → Numbers (asked (judged (digits self.old) spec) spec
+            (bars_before (digits self.old) spec quotes) self.old.held)
             self.old result self.new }
     {
         let Some(indicator) = self.judged(&spec) else {
@@ -220,7 +224,8 @@ impl Series {
         out: &mut FixList,
     ) -> Result<(), SeriesFault>
         ensures { (quotes : List Quote) → StandsFor self.now quotes
-            → Fills (buffered_at (digits self.now) (slice_get self.now.held number) start count quotes) out.old result out.new }
+            → Fills (buffered_at (digits self.now) (slice_get self.now.held number) start count quotes)
+            out.old result out.new }
     {
         let Some(held) = self.held.at(number as u64) else {
             return Err(SeriesFault::BadNumber);
