@@ -38,11 +38,14 @@ until_is cs fs e es h i n xs m =
     go ys [] p my mz = absurd (let f : false ≡ true → ⊥ = λ e. cc in f (sym n ∙ all_empty es mz))
     go ys (z ∷ zs) p my mz =
         let k = until_at cs fs ys z zs (all_away (map class_number cs) (map form_number fs) e h (heads ys) my) (front_within cs fs es i z zs mz) in
-        let q = ap (λ xs. until cs fs xs) p ∙ k in
-        (ys, z ∷ zs,
+        let q = ap (λ xs. until cs fs xs) p ∙ k in (
+          ys,
+          z ∷ zs,
           ap (λ xs. take (until cs fs xs) xs) p ∙ ap (λ n. take n (ys ++ z ∷ zs)) k ∙ take_front ys (z ∷ zs),
           ap (λ xs. drop (until cs fs xs) xs) p ∙ ap (λ n. drop n (ys ++ z ∷ zs)) k ∙ drop_front ys (z ∷ zs),
-          my, mz)
+          my,
+          mz,
+        )
 
 -- enumerations
 abbrev pub enumerators : Expression
@@ -50,20 +53,24 @@ enumerators = list_of (in_order (name ∷ given ∷ []))
 
 enumerators_stand : Stands braced (a class.OpenBrace ∷ enumerators ∷ maybe (a class.Comma) ∷ a class.CloseBrace ∷ a class.Semicolon ∷ [])
 unfolding class_number form_number
-enumerators_stand = record { there = λ xs m.
-    let r = m.4 in
-    (braced_stand (seq enumerators (maybe (a class.Comma))) refl).there xs
-    (m.0, m.1, m.2, m.3, (r.0 ++ r.4.0, r.4.1, r.2 ∙ ap (λ us. r.0 ++ us) r.4.2 ∙ sym (append_assoc r.0 r.4.0 r.4.1), (r.0, r.4.0, refl, r.3, r.4.3), r.4.4)) }
+enumerators_stand = record {
+  there = λ xs m.
+      let r = m.4 in
+      (braced_stand (seq enumerators (maybe (a class.Comma))) refl).there xs
+      (m.0, m.1, m.2, m.3, (r.0 ++ r.4.0, r.4.1, r.2 ∙ ap (λ us. r.0 ++ us) r.4.2 ∙ sym (append_assoc r.0 r.4.0 r.4.1), (r.0, r.4.0, refl, r.3, r.4.3), r.4.4));
+}
 
 row_stands : {B : Type 0} (k : List Part → Option B) (d e f : Expression) (es : List Expression) → Stands k (d ∷ e ∷ f ∷ es) → Stands k (d ∷ seq e f ∷ es)
 row_stands k d e f es st = record { there = λ xs m. st.there xs (m.0, m.1, m.2, m.3, opened e f es m.1 m.4) }
 
 two_rows : Stands braced (a class.OpenBrace ∷ enumerators ∷ seq (maybe (a class.Comma)) (seq (a class.CloseBrace) (a class.Semicolon)) ∷ [])
-two_rows = record { there = λ xs m.
-    let r = m.4 in
-    let s = opened (maybe (a class.Comma)) (seq (a class.CloseBrace) (a class.Semicolon)) [] r.1 r.4 in
-    let t = opened (a class.CloseBrace) (a class.Semicolon) [] s.1 s.4 in
-    enumerators_stand.there xs (m.0, m.1, m.2, m.3, (r.0, r.1, r.2, r.3, (s.0, s.1, s.2, s.3, t))) }
+two_rows = record {
+  there = λ xs m.
+      let r = m.4 in
+      let s = opened (maybe (a class.Comma)) (seq (a class.CloseBrace) (a class.Semicolon)) [] r.1 r.4 in
+      let t = opened (a class.CloseBrace) (a class.Semicolon) [] s.1 s.4 in
+      enumerators_stand.there xs (m.0, m.1, m.2, m.3, (r.0, r.1, r.2, r.3, (s.0, s.1, s.2, s.3, t)));
+}
 
 enumeration_total : Stands enumeration (enumeration_parts ∷ [])
 unfolding enumeration class_number form_number
@@ -97,19 +104,23 @@ parent_named : {B : Type 0} (k : Option Parent × List Part → Option B) (ds gs
     → within gs (map form_number (form.GenericType ∷ form.GenericFunction ∷ [])) ≡ true → ((o : Option Parent) → Stands (λ zs. k (o, zs)) es) → (o : Option Part)
     → Stands (λ zs. on (parent_behind (o, zs)) k) (part ds gs ∷ es)
 unfolding parent_behind
-parent_named k ds gs es h i st o = record { there = λ xs m.
-    ap is_some (on_map (λ (t : Part × List Part). (Some (record { access = o; type = t.0 }), t.1)) (must names (form.GenericType ∷ form.GenericFunction ∷ []) xs) k)
-    ∙ (must_stands names (form.GenericType ∷ form.GenericFunction ∷ []) ds gs (λ t. k (Some (record { access = o; type = t.0 }), t.1)) es h i (λ y. st (Some (record { access = o; type = y })))).there xs m }
+parent_named k ds gs es h i st o = record {
+  there = λ xs m.
+      ap is_some (on_map (λ (t : Part × List Part). (Some (record { access = o; type = t.0 }), t.1)) (must names (form.GenericType ∷ form.GenericFunction ∷ []) xs) k)
+      ∙ (must_stands names (form.GenericType ∷ form.GenericFunction ∷ []) ds gs (λ t. k (Some (record { access = o; type = t.0 }), t.1)) es h i (λ y. st (Some (record { access = o; type = y })))).there xs m;
+}
 
 parent_so : {B : Type 0} (k : Option Parent × List Part → Option B) (es : List Expression) → ((o : Option Parent) → Stands (λ zs. k (o, zs)) es)
     → Stands (λ xs. on (parent_cut xs) k) (flat parents es)
 unfolding parent_cut is class_number form_number
-parent_so k es st = record { there = λ xs m.
-    let r = cut_one (class_number class.Colon ∷ []) [] (maybe (a class.Access) ∷ one names (form.GenericType ∷ form.GenericFunction ∷ []) ∷ es) xs m in
-    ap (λ xs. is_some (on (parent_cut xs) k)) r.2
-    ∙ ap (λ (b : Bool). is_some (on (if b then parent_behind (may_be (class.Access ∷ []) r.1) else Some (None, r.0 ∷ r.1)) k)) r.3
-    ∙ (may_be_stands (class.Access ∷ []) (class_number class.Access ∷ []) (λ p. on (parent_behind p) k) (one names (form.GenericType ∷ form.GenericFunction ∷ []) ∷ es) refl refl
-      (parent_named k (map class_number names) (map form_number (form.GenericType ∷ form.GenericFunction ∷ [])) es refl refl st)).there r.1 r.4 }
+parent_so k es st = record {
+  there = λ xs m.
+      let r = cut_one (class_number class.Colon ∷ []) [] (maybe (a class.Access) ∷ one names (form.GenericType ∷ form.GenericFunction ∷ []) ∷ es) xs m in
+      ap (λ xs. is_some (on (parent_cut xs) k)) r.2
+      ∙ ap (λ (b : Bool). is_some (on (if b then parent_behind (may_be (class.Access ∷ []) r.1) else Some (None, r.0 ∷ r.1)) k)) r.3
+      ∙ (may_be_stands (class.Access ∷ []) (class_number class.Access ∷ []) (λ p. on (parent_behind p) k) (one names (form.GenericType ∷ form.GenericFunction ∷ []) ∷ es) refl refl
+      (parent_named k (map class_number names) (map form_number (form.GenericType ∷ form.GenericFunction ∷ [])) es refl refl st)).there r.1 r.4;
+}
 
 parent_stands : {B : Type 0} (k : Option Parent × List Part → Option B) (es : List Expression) → edges_away (class_number class.Colon ∷ []) [] (firsts_all es) ≡ true
     → ((o : Option Parent) → Stands (λ zs. k (o, zs)) es) → Stands (λ xs. on (parent_cut xs) k) (maybe parents ∷ es)
@@ -123,9 +134,11 @@ class_end_stands k n = parent_stands _ _ refl (λ p. map_stands _ braced _ membe
 
 class_announced : (k n : Part) → Stands (class_behind k n) (a class.Semicolon ∷ [])
 unfolding class_behind class_number is
-class_announced k n = record { there = λ xs m.
-    let r = cut_one (class_number class.Semicolon ∷ []) [] [] xs m in
-    ap (λ xs. is_some (class_behind k n xs)) r.2 ∙ ap (λ (b : Bool). is_some (if b then Some (record { kind = k; name = n; parent = None; members = None }) else class_end k n (r.0 ∷ r.1))) r.3 }
+class_announced k n = record {
+  there = λ xs m.
+      let r = cut_one (class_number class.Semicolon ∷ []) [] [] xs m in
+      ap (λ xs. is_some (class_behind k n xs)) r.2 ∙ ap (λ (b : Bool). is_some (if b then Some (record { kind = k; name = n; parent = None; members = None }) else class_end k n (r.0 ∷ r.1))) r.3;
+}
 
 class_defined : (k n : Part) → Stands (class_behind k n) (maybe parents ∷ class_rows)
 unfolding class_behind class_number form_number

@@ -26,11 +26,13 @@ and_false false = refl
 
 -- the second of two rows: one or the other, there or not
 second_maybe : {B : Type 0} (k : List Part → Option B) (d e : Expression) (es : List Expression) → Stands k (d ∷ es) → Stands k (d ∷ e ∷ es) → Stands k (d ∷ either nothing e ∷ es)
-second_maybe k d e es left right = record { there = λ xs m.
-    (elim m.4.3 as (λ x. is_some (k xs) ≡ true) [
-      | inl x ↦ left.there xs (m.0, m.4.1, m.2 ∙ ap (λ us. m.0 ++ us) (m.4.2 ∙ ap (λ us. us ++ m.4.1) x), m.3, m.4.4)
-      | inr x ↦ right.there xs (m.0, m.1, m.2, m.3, (m.4.0, m.4.1, m.4.2, x, m.4.4))
-    ]) }
+second_maybe k d e es left right = record {
+  there = λ xs m.
+      (elim m.4.3 as (λ x. is_some (k xs) ≡ true) [
+        | inl x ↦ left.there xs (m.0, m.4.1, m.2 ∙ ap (λ us. m.0 ++ us) (m.4.2 ∙ ap (λ us. us ++ m.4.1) x), m.3, m.4.4)
+        | inr x ↦ right.there xs (m.0, m.1, m.2, m.3, (m.4.0, m.4.1, m.4.2, x, m.4.4))
+      ]);
+}
 
 abbrev behind_types : List Class
 behind_types = class.Tilde ∷ stars ++ names
@@ -41,9 +43,11 @@ typed_plain : {B : Type 0} (k : Option Typed × List Part → Option B) (ds gs :
     → edges_away (map class_number stars) [] (firsts_all es) ≡ true → edges_within (map class_number behind_types) [] (firsts_all es) ≡ true → nullable_all es ≡ false
     → ((o : Option Typed) → Stands (λ zs. k (o, zs)) es) → Stands (λ xs. k (typed xs)) (part ds gs ∷ es)
 unfolding typed is_typed typed_front is
-typed_plain {B = B} k ds gs es h i away near n st = record { there = λ xs m.
-    let r = cut_one ds gs es xs m in
-    ap (λ xs. is_some (k (typed xs))) r.2 ∙ go r.0 r.1 (inside_head (map class_number type_words) (map form_number type_forms) ds gs r.0.head h i r.3) r.4 }
+typed_plain {B = B} k ds gs es h i away near n st = record {
+  there = λ xs m.
+      let r = cut_one ds gs es xs m in
+      ap (λ xs. is_some (k (typed xs))) r.2 ∙ go r.0 r.1 (inside_head (map class_number type_words) (map form_number type_forms) ds gs r.0.head h i r.3) r.4;
+}
   where
     go : (t : Part) (zs : List Part) → is type_words type_forms t ≡ true → MatchesAll es (heads zs) → is_some (k (typed (t ∷ zs))) ≡ true
     go t [] e m = absurd (let f : false ≡ true → ⊥ = λ e. cc in f (sym n ∙ all_empty es m))
@@ -57,16 +61,18 @@ typed_star : {B : Type 0} (k : Option Typed × List Part → Option B) (ds gs ss
     → within ds (map class_number type_words) ≡ true → within gs (map form_number type_forms) ≡ true → within ss (map class_number stars) ≡ true
     → ((o : Option Typed) → Stands (λ zs. k (o, zs)) es) → Stands (λ xs. k (typed xs)) (part ds gs ∷ part ss [] ∷ es)
 unfolding typed is_typed typed_front is may class_number
-typed_star k ds gs ss es h i j st = record { there = λ xs m.
-    let r = cut_one ds gs (part ss [] ∷ es) xs m in
-    let s = cut_one ss [] es r.1 r.4 in
-    let e = inside_head (map class_number type_words) (map form_number type_forms) ds gs r.0.head h i r.3 in
-    let f = inside_head (map class_number stars) [] ss [] s.0.head j refl s.3 in
-    ap (λ xs. is_some (k (typed xs))) (r.2 ∙ ap (λ zs. r.0 ∷ zs) s.2)
-    ∙ ap (λ (b : Bool). is_some (k (if b && is behind_types [] s.0 then typed_front (r.0 ∷ s.0 ∷ s.1) else (None, r.0 ∷ s.0 ∷ s.1)))) e
-    ∙ ap (λ (b : Bool). is_some (k (if b then typed_front (r.0 ∷ s.0 ∷ s.1) else (None, r.0 ∷ s.0 ∷ s.1)))) (star_behind s.0 f)
-    ∙ ap (λ (b : Bool). is_some (k (let p : Bool × List Part = (if b then (true, s.1) else (false, s.0 ∷ s.1)) in (Some (record { type = r.0; pointer = p.0 }), p.1)))) f
-    ∙ (st (Some (record { type = r.0; pointer = true }))).there s.1 s.4 }
+typed_star k ds gs ss es h i j st = record {
+  there = λ xs m.
+      let r = cut_one ds gs (part ss [] ∷ es) xs m in
+      let s = cut_one ss [] es r.1 r.4 in
+      let e = inside_head (map class_number type_words) (map form_number type_forms) ds gs r.0.head h i r.3 in
+      let f = inside_head (map class_number stars) [] ss [] s.0.head j refl s.3 in
+      ap (λ xs. is_some (k (typed xs))) (r.2 ∙ ap (λ zs. r.0 ∷ zs) s.2)
+      ∙ ap (λ (b : Bool). is_some (k (if b && is behind_types [] s.0 then typed_front (r.0 ∷ s.0 ∷ s.1) else (None, r.0 ∷ s.0 ∷ s.1)))) e
+      ∙ ap (λ (b : Bool). is_some (k (if b then typed_front (r.0 ∷ s.0 ∷ s.1) else (None, r.0 ∷ s.0 ∷ s.1)))) (star_behind s.0 f)
+      ∙ ap (λ (b : Bool). is_some (k (let p : Bool × List Part = (if b then (true, s.1) else (false, s.0 ∷ s.1)) in (Some (record { type = r.0; pointer = p.0 }), p.1)))) f
+      ∙ (st (Some (record { type = r.0; pointer = true }))).there s.1 s.4;
+}
   where
     star_behind : (s : Part) → among (map class_number stars) [] s.head ≡ true → among (map class_number behind_types) [] s.head ≡ true
     star_behind s f = inside_head (map class_number behind_types) [] (map class_number stars) [] s.head refl refl f
@@ -133,12 +139,14 @@ scoped_stands : {B : Type 0} (k : Option Part × List Part → Option B) (more :
 unfolding scoped is
 scoped_stands k more st = maybe_stands (λ xs. k (scoped xs)) (in_order (name ∷ a class.DoubleColon ∷ [])) (plain_rows more)
     (record { there = λ xs m. ap (λ p. is_some (k p)) (plain_no_colons more xs m) ∙ (st None).there xs m })
-    (record { there = λ xs m.
-      let r = cut_one (map class_number names) [] (a class.DoubleColon ∷ plain_rows more) xs m in
-      let d = cut_one (class_number class.DoubleColon ∷ []) [] (plain_rows more) r.1 r.4 in
-      ap (λ xs. is_some (k (scoped xs))) (r.2 ∙ ap (λ zs. r.0 ∷ zs) d.2)
-      ∙ ap (λ (b : Bool). is_some (k (if b then (Some r.0, d.1) else (None, r.0 ∷ d.0 ∷ d.1)))) d.3
-      ∙ (st (Some r.0)).there d.1 d.4 })
+    (record {
+      there = λ xs m.
+          let r = cut_one (map class_number names) [] (a class.DoubleColon ∷ plain_rows more) xs m in
+          let d = cut_one (class_number class.DoubleColon ∷ []) [] (plain_rows more) r.1 r.4 in
+          ap (λ xs. is_some (k (scoped xs))) (r.2 ∙ ap (λ zs. r.0 ∷ zs) d.2)
+          ∙ ap (λ (b : Bool). is_some (k (if b then (Some r.0, d.1) else (None, r.0 ∷ d.0 ∷ d.1)))) d.3
+          ∙ (st (Some r.0)).there d.1 d.4;
+    })
 
 -- behind the parentheses
 abbrev bases : Expression
@@ -162,14 +170,16 @@ bases_stand : {B : Type 0} (k : List Part × List Part → Option B) → ((ys : 
 unfolding bases_cut is class_number form_number
 bases_stand k st = either_stands (λ xs. k (bases_cut xs)) nothing bases body_rows
     (flat_stands _ _ _ (record { there = λ xs m. ap (λ p. is_some (k p)) (bases_none xs m) ∙ (st []).there xs m }))
-    (seq_stands _ _ _ _ (record { there = λ xs m.
-      let r = cut_one (class_number class.Colon ∷ []) [] (list_of base ∷ body_rows) xs m in
-      let u = until_is (class.Override ∷ class.Semicolon ∷ class.Assign ∷ []) (form.Block ∷ []) (list_of base) body_rows refl refl refl r.1 r.4 in
-      ap (λ xs. is_some (k (bases_cut xs))) r.2
-      ∙ ap (λ (b : Bool). is_some (k (if b then split (ends_bases r.1) r.1 else ([], r.0 ∷ r.1)))) r.3
-      ∙ ap (λ ys. is_some (k (ys, drop (ends_bases r.1) r.1))) u.2
-      ∙ ap (λ zs. is_some (k (u.0, zs))) u.3
-      ∙ (st u.0).there u.1 u.5 }))
+    (seq_stands _ _ _ _ (record {
+      there = λ xs m.
+          let r = cut_one (class_number class.Colon ∷ []) [] (list_of base ∷ body_rows) xs m in
+          let u = until_is (class.Override ∷ class.Semicolon ∷ class.Assign ∷ []) (form.Block ∷ []) (list_of base) body_rows refl refl refl r.1 r.4 in
+          ap (λ xs. is_some (k (bases_cut xs))) r.2
+          ∙ ap (λ (b : Bool). is_some (k (if b then split (ends_bases r.1) r.1 else ([], r.0 ∷ r.1)))) r.3
+          ∙ ap (λ ys. is_some (k (ys, drop (ends_bases r.1) r.1))) u.2
+          ∙ ap (λ zs. is_some (k (u.0, zs))) u.3
+          ∙ (st u.0).there u.1 u.5;
+    }))
 
 -- block | ";" | "=" "0" ";"
 lone_choice : (b c : Bool) (x y : Body) → (b ≡ true) ⊎ (c ≡ true) → is_some (if b then Some x else if c then Some y else None) ≡ true
@@ -180,10 +190,12 @@ lone_choice false false x y (inr e) = absurd (let f : false ≡ true → ⊥ = �
 
 body_lone : (ds gs : List ℕ) → ((y : Part) → among ds gs y.head ≡ true → (is [] (form.Block ∷ []) y ≡ true) ⊎ (is (class.Semicolon ∷ []) [] y ≡ true)) → Stands body_of (part ds gs ∷ [])
 unfolding body_of lone_body
-body_lone ds gs f = record { there = λ xs m.
-    let r = cut_one ds gs [] xs m in
-    ap (λ xs. is_some (body_of xs)) (r.2 ∙ ap (λ zs. r.0 ∷ zs) (nothing_left r.1 r.4))
-    ∙ lone_choice (is [] (form.Block ∷ []) r.0) (is (class.Semicolon ∷ []) [] r.0) (Block r.0) Declared (f r.0 r.3) }
+body_lone ds gs f = record {
+  there = λ xs m.
+      let r = cut_one ds gs [] xs m in
+      ap (λ xs. is_some (body_of xs)) (r.2 ∙ ap (λ zs. r.0 ∷ zs) (nothing_left r.1 r.4))
+      ∙ lone_choice (is [] (form.Block ∷ []) r.0) (is (class.Semicolon ∷ []) [] r.0) (Block r.0) Declared (f r.0 r.3);
+}
 
 abbrev pure_rows : List Expression
 pure_rows = a class.Assign ∷ a class.Zero ∷ a class.Semicolon ∷ []
@@ -197,11 +209,13 @@ pure_stands = sign_stands _ _ _ _ refl (sign_stands _ _ _ _ refl (sign_stands _ 
 
 body_pure : Stands body_of pure_rows
 unfolding body_of
-body_pure = record { there = λ xs m.
-    let r = cut_one (class_number class.Assign ∷ []) [] (a class.Zero ∷ a class.Semicolon ∷ []) xs m in
-    let s = cut_one (class_number class.Zero ∷ []) [] (a class.Semicolon ∷ []) r.1 r.4 in
-    let e = r.2 ∙ ap (λ zs. r.0 ∷ zs) s.2 in
-    ap (λ xs. is_some (body_of xs)) e ∙ pure_stands.there (r.0 ∷ s.0 ∷ s.1) (subst (λ xs. MatchesAll pure_rows (heads xs)) e m) }
+body_pure = record {
+  there = λ xs m.
+      let r = cut_one (class_number class.Assign ∷ []) [] (a class.Zero ∷ a class.Semicolon ∷ []) xs m in
+      let s = cut_one (class_number class.Zero ∷ []) [] (a class.Semicolon ∷ []) r.1 r.4 in
+      let e = r.2 ∙ ap (λ zs. r.0 ∷ zs) s.2 in
+      ap (λ xs. is_some (body_of xs)) e ∙ pure_stands.there (r.0 ∷ s.0 ∷ s.1) (subst (λ xs. MatchesAll pure_rows (heads xs)) e m);
+}
 
 body_stands : Stands body_of (bodies ∷ [])
 unfolding is class_number form_number
@@ -210,10 +224,28 @@ body_stands = either_stands _ _ _ _ (flat_stands _ _ _ (body_lone _ _ (λ y h. i
 
 end_stands : (t : Title) (ps : List Part) → Stands (function_end t ps) (maybe bases ∷ body_rows)
 unfolding function_end class_number form_number
-end_stands t ps = bases_stand (λ b. let o = may (class.Override ∷ []) b.1 in option_map (λ body. record { words = t.words; result = t.result; scope = t.scope; destructor = t.destructor;
-    name = t.name; params = ps; bases = b.0; overrides = o.0; body = body }) (body_of o.1))
-    (λ ys. may_stands (class.Override ∷ []) _ (λ o. option_map (λ body. record { words = t.words; result = t.result; scope = t.scope; destructor = t.destructor;
-      name = t.name; params = ps; bases = ys; overrides = o.0; body = body }) (body_of o.1)) _ refl refl (λ o. map_stands _ body_of _ body_stands))
+end_stands t ps = bases_stand (λ b. let o = may (class.Override ∷ []) b.1 in option_map (λ body. record {
+  words = t.words;
+  result = t.result;
+  scope = t.scope;
+  destructor = t.destructor;
+  name = t.name;
+  params = ps;
+  bases = b.0;
+  overrides = o.0;
+  body = body;
+}) (body_of o.1))
+    (λ ys. may_stands (class.Override ∷ []) _ (λ o. option_map (λ body. record {
+      words = t.words;
+      result = t.result;
+      scope = t.scope;
+      destructor = t.destructor;
+      name = t.name;
+      params = ps;
+      bases = ys;
+      overrides = o.0;
+      body = body;
+    }) (body_of o.1)) _ refl refl (λ o. map_stands _ body_of _ body_stands))
 
 -- the default of a parameter
 abbrev ends_dims : List Part → ℕ
@@ -253,6 +285,7 @@ preset_behind xs m =
     append_nil : (xs : List Part) → xs ++ [] ≡ xs
     append_nil [] = refl
     append_nil (x ∷ xs) = ap (λ ys. x ∷ ys) (append_nil xs)
+
     row_of : (ys zs : List Part) → Matches dims (heads ys) → MatchesAll (a class.Assign ∷ expr ∷ []) (heads zs) → MatchesAll (dims ∷ a class.Assign ∷ expr ∷ []) (heads (ys ++ zs))
     row_of ys zs my mz = (heads ys, heads zs, heads_append ys zs, my, mz)
       where
@@ -301,8 +334,8 @@ lent_stands : (c : Bool) (t : Part) → Stands (param_typed c t) (maybe lent_cho
 unfolding param_typed class_number form_number
 lent_stands c t = maybe_stands _ _ _ (may_not_stands stars (starred c t) _ refl (unreferred_stands c t false))
     (either_stands _ _ _ _
-      (flat_stands _ _ _ (may_so_stands stars _ (starred c t) _ refl (referred_stands c t true _ refl)))
-      (flat_stands _ _ _ (may_not_stands stars (starred c t) _ refl (may_so_stands references _ (referred c t false) _ refl (named_stands c t false true)))))
+    (flat_stands _ _ _ (may_so_stands stars _ (starred c t) _ refl (referred_stands c t true _ refl)))
+    (flat_stands _ _ _ (may_not_stands stars (starred c t) _ refl (may_so_stands references _ (referred c t false) _ refl (named_stands c t false true)))))
 
 -- a parameter, with either type
 abbrev behind_const : Bool × List Part → Option Param
@@ -429,14 +462,17 @@ pieces_stand (suc n) (z ∷ zs) p rest ok w m l =
   where
     opened_alone : (xs : List Part) → Matches later (heads xs) → MatchesAll (a class.Comma ∷ param_parts lent_alone ∷ []) (heads xs)
     opened_alone xs m = opened (a class.Comma) (param_parts lent_alone) [] (heads xs) (all_of later (heads xs) m)
+
     whole : (xs : List Part) → MatchesAll (param_parts lent_alone ∷ []) (heads xs) → Matches (param_parts lent_alone) (heads xs)
     whole xs m = subst (Matches (param_parts lent_alone)) (sym (m.2 ∙ ap (λ us. m.0 ++ us) m.4 ∙ append_none m.0)) m.3
       where
         append_none : (hs : List Head) → hs ++ [] ≡ hs
         append_none [] = refl
         append_none (h ∷ hs) = ap (λ us. h ∷ us) (append_none hs)
+
     shorter : (rest : List Part) (c : Part) (more : List Part) (z : Part) (zs : List Part) → rest ≡ c ∷ more → length rest < length (z ∷ zs) → length more < length (z ∷ zs)
     shorter rest c more z zs e l = let f = ap length e in omega (arith, f, l)
+
     shorter_still : (rest : List Part) (c : Part) (us vs : List Part) (z : Part) (zs : List Part) → rest ≡ c ∷ (us ++ vs) → length rest < length (z ∷ zs) → length vs < length zs
     shorter_still rest c us vs z zs e l = let f = ap length e in let g = length-append us vs in omega (arith, f, g, l)
 
@@ -486,6 +522,7 @@ first_params type st plain two xs m zs l =
         append_none : (hs : List Head) → hs ++ [] ≡ hs
         append_none [] = refl
         append_none (h ∷ hs) = ap (λ us. h ∷ us) (append_none hs)
+
     shorter : (ys us : List Part) → xs ≡ ys ++ us → Matches (param_parts type) (heads ys) → length us < length zs
     shorter ys us e w =
         let f = ap length e in let g = length-append ys us in
@@ -519,8 +556,10 @@ alone_params = params_are lent_alone alone_param later_plain (omega arith)
 parenthesised : (type : Expression) → avoids (class_number class.CloseParen ∷ []) [] (params_parts type) ≡ true → ((xs : List Part) → Matches (params_parts type) (heads xs) → params_stand xs ≡ true)
     → (t : Title) → Stands (function_params t) (params_parts type ∷ a class.CloseParen ∷ maybe bases ∷ body_rows)
 unfolding function_params
-parenthesised type h all t = up_to_stands class.CloseParen (params_parts type) _ _ h (λ ps m. record { there = λ xs w.
-    ap (λ (b : Bool). is_some (if b then function_end t ps xs else None)) (all ps m) ∙ (end_stands t ps).there xs w })
+parenthesised type h all t = up_to_stands class.CloseParen (params_parts type) _ _ h (λ ps m. record {
+  there = λ xs w.
+      ap (λ (b : Bool). is_some (if b then function_end t ps xs else None)) (all ps m) ∙ (end_stands t ps).there xs w;
+})
 
 abbrev behind_name : Expression → List Expression
 behind_name type = params_parts type ∷ a class.CloseParen ∷ maybe bases ∷ body_rows
@@ -552,5 +591,5 @@ pub function_total : Stands function (function_parts ∷ [])
 unfolding function class_number form_number
 function_total = seq_stands _ _ _ _ (run_stands function_words _ (λ p. function_worded p.0 p.1) _ refl refl (λ ws.
     either_stands _ _ _ _
-      (seq_stands _ _ _ _ (behind_stands _ _ _ _ (typed_function ws)))
-      (spread _ lent_alone (untyped_function ws))))
+    (seq_stands _ _ _ _ (behind_stands _ _ _ _ (typed_function ws)))
+    (spread _ lent_alone (untyped_function ws))))

@@ -52,18 +52,24 @@ abbrev stored_item : Expression
 stored_item = in_order (many (a_token (class.Input ∷ class.StaticInput ∷ class.Static ∷ class.Const ∷ [])) ∷ variables_parts ∷ a class.Semicolon ∷ [])
 
 in_three : {B : Type 0} (k : List Part → Option B) (d e f : Expression) → Stands k (seq d e ∷ f ∷ []) → Stands k (seq d (seq e f) ∷ [])
-in_three k d e f st = seq_stands _ _ _ _ (record { there = λ xs m.
-    (joined_stands k d e (f ∷ []) st).there xs (m.0, m.1, m.2, m.3, opened e f [] m.1 m.4) })
+in_three k d e f st = seq_stands _ _ _ _ (record {
+  there = λ xs m.
+      (joined_stands k d e (f ∷ []) st).there xs (m.0, m.1, m.2, m.3, opened e f [] m.1 m.4);
+})
 
 item_variables : Stands item (stored_item ∷ [])
 unfolding item declaration
-item_variables = in_three _ _ _ _ (record { there = λ xs m.
-    other Group Declares (group xs) (declaration store_words xs) (other OfFunction OfVariables (function xs) (only_variables store_words xs) (stored_only.there xs m)) })
+item_variables = in_three _ _ _ _ (record {
+  there = λ xs m.
+      other Group Declares (group xs) (declaration store_words xs) (other OfFunction OfVariables (function xs) (only_variables store_words xs) (stored_only.there xs m));
+})
 
 item_function : Stands item (function_parts ∷ [])
 unfolding item declaration
-item_function = record { there = λ xs m.
-    other Group Declares (group xs) (declaration store_words xs) (choice OfFunction OfVariables (function xs) (only_variables store_words xs) (function_total.there xs m)) }
+item_function = record {
+  there = λ xs m.
+      other Group Declares (group xs) (declaration store_words xs) (choice OfFunction OfVariables (function xs) (only_variables store_words xs) (function_total.there xs m));
+}
 
 abbrev group_parts : Expression
 group_parts = in_order (a class.Input ∷ a class.Group ∷ a class.String ∷ maybe (a class.Semicolon) ∷ [])
@@ -98,11 +104,13 @@ headed k es st = same_stands _ (λ xs. on (sign (class.Template ∷ []) xs) (λ 
 
 -- the rows of `template < .. >` before others
 head_rows : {B : Type 0} (k : List Part → Option B) (es : List Expression) → Stands k (a class.Template ∷ a class.Less ∷ type_names ∷ a class.Greater ∷ es) → Stands k (head_parts ∷ es)
-head_rows k es st = record { there = λ xs m.
-    let x = opened (a class.Template) (seq (a class.Less) (seq type_names (a class.Greater))) es (heads xs) m in
-    let y = opened (a class.Less) (seq type_names (a class.Greater)) es x.1 x.4 in
-    let z = opened type_names (a class.Greater) es y.1 y.4 in
-    st.there xs (x.0, x.1, x.2, x.3, (y.0, y.1, y.2, y.3, z)) }
+head_rows k es st = record {
+  there = λ xs m.
+      let x = opened (a class.Template) (seq (a class.Less) (seq type_names (a class.Greater))) es (heads xs) m in
+      let y = opened (a class.Less) (seq type_names (a class.Greater)) es x.1 x.4 in
+      let z = opened type_names (a class.Greater) es y.1 y.4 in
+      st.there xs (x.0, x.1, x.2, x.3, (y.0, y.1, y.2, y.3, z));
+}
 
 lone_class_stands : Stands lone_class (a_node form.Class ∷ [])
 unfolding lone_class class_number form_number
@@ -151,10 +159,12 @@ joined_row d e f hs m =
     (m.0 ++ n.0, n.1, m.2 ∙ ap (λ us. m.0 ++ us) n.2 ∙ sym (append_assoc m.0 n.0 n.1), (m.0, n.0, refl, m.3, n.3), n.4)
 
 in_four : {B : Type 0} (k : List Part → Option B) (c d e f : Expression) → Stands k (seq c (seq d e) ∷ f ∷ []) → Stands k (seq c (seq d (seq e f)) ∷ [])
-in_four k c d e f st = seq_stands _ _ _ _ (record { there = λ xs m.
-    let x = opened d (seq e f) [] m.1 m.4 in
-    let y = opened e f [] x.1 x.4 in
-    (joined_stands k c (seq d e) (f ∷ []) st).there xs (m.0, m.1, m.2, m.3, joined_row d e f m.1 (x.0, x.1, x.2, x.3, y)) })
+in_four k c d e f st = seq_stands _ _ _ _ (record {
+  there = λ xs m.
+      let x = opened d (seq e f) [] m.1 m.4 in
+      let y = opened e f [] x.1 x.4 in
+      (joined_stands k c (seq d e) (f ∷ []) st).there xs (m.0, m.1, m.2, m.3, joined_row d e f m.1 (x.0, x.1, x.2, x.3, y));
+})
 
 member_plain : (es : List Expression) → edges_away (class_number class.Template ∷ []) [] (firsts_all es) ≡ true → nullable_all es ≡ false
     → ((xs : List Part) → MatchesAll es (heads xs) → is_some (declaration local_words xs) ≡ true) → Stands member es
@@ -184,11 +194,13 @@ template_stands = headed _ _ (λ h. map_stands _ function _ function_total)
 
 member_headed : Stands member headed_rows
 unfolding member is
-member_headed = record { there = λ xs m.
-    let r = cut_one (class_number class.Template ∷ []) [] (a class.Less ∷ type_names ∷ a class.Greater ∷ function_parts ∷ []) xs m in
-    ap (λ xs. is_some (member xs)) r.2
-    ∙ ap (λ (b : Bool). is_some (if b then member_template (r.0 ∷ r.1) else option_map (λ d. record { params = []; declares = d }) (declaration local_words (r.0 ∷ r.1)))) r.3
-    ∙ template_stands.there (r.0 ∷ r.1) (subst (λ xs. MatchesAll headed_rows (heads xs)) r.2 m) }
+member_headed = record {
+  there = λ xs m.
+      let r = cut_one (class_number class.Template ∷ []) [] (a class.Less ∷ type_names ∷ a class.Greater ∷ function_parts ∷ []) xs m in
+      ap (λ xs. is_some (member xs)) r.2
+      ∙ ap (λ (b : Bool). is_some (if b then member_template (r.0 ∷ r.1) else option_map (λ d. record { params = []; declares = d }) (declaration local_words (r.0 ∷ r.1)))) r.3
+      ∙ template_stands.there (r.0 ∷ r.1) (subst (λ xs. MatchesAll headed_rows (heads xs)) r.2 m);
+}
 
 member_total : Stands member (member_parts ∷ [])
 member_total = either_stands member owned_member (seq (maybe head_parts) function_parts) [] member_variables

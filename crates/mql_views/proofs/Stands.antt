@@ -221,26 +221,32 @@ flat_stands k e es st = record { there = λ xs m. st.there xs (flattened e es (h
 
 pub sign_stands : {B : Type 0} (cs : List Class) (ds : List ℕ) (k : List Part → Option B) (es : List Expression) → within ds (map class_number cs) ≡ true → Stands k es → Stands (λ xs. on (sign cs xs) k) (part ds [] ∷ es)
 unfolding is sign
-sign_stands cs ds k es h st = record { there = λ xs m.
-    let r = cut_one ds [] es xs m in
-    ap (λ xs. is_some (on (sign cs xs) k)) r.2
-    ∙ ap (λ (b : Bool). is_some (on (if b then Some r.1 else None) k)) (inside_head (map class_number cs) [] ds [] r.0.head h refl r.3)
-    ∙ st.there r.1 r.4 }
+sign_stands cs ds k es h st = record {
+  there = λ xs m.
+      let r = cut_one ds [] es xs m in
+      ap (λ xs. is_some (on (sign cs xs) k)) r.2
+      ∙ ap (λ (b : Bool). is_some (on (if b then Some r.1 else None) k)) (inside_head (map class_number cs) [] ds [] r.0.head h refl r.3)
+      ∙ st.there r.1 r.4;
+}
 
 pub must_stands : {B : Type 0} (cs : List Class) (fs : List Form) (ds gs : List ℕ) (k : Part × List Part → Option B) (es : List Expression)
     → within ds (map class_number cs) ≡ true → within gs (map form_number fs) ≡ true → ((y : Part) → Stands (λ zs. k (y, zs)) es)
     → Stands (λ xs. on (must cs fs xs) k) (part ds gs ∷ es)
 unfolding is must
-must_stands cs fs ds gs k es h i st = record { there = λ xs m.
-    let r = cut_one ds gs es xs m in
-    ap (λ xs. is_some (on (must cs fs xs) k)) r.2
-    ∙ ap (λ (b : Bool). is_some (on (if b then Some (r.0, r.1) else None) k)) (inside_head (map class_number cs) (map form_number fs) ds gs r.0.head h i r.3)
-    ∙ (st r.0).there r.1 r.4 }
+must_stands cs fs ds gs k es h i st = record {
+  there = λ xs m.
+      let r = cut_one ds gs es xs m in
+      ap (λ xs. is_some (on (must cs fs xs) k)) r.2
+      ∙ ap (λ (b : Bool). is_some (on (if b then Some (r.0, r.1) else None) k)) (inside_head (map class_number cs) (map form_number fs) ds gs r.0.head h i r.3)
+      ∙ (st r.0).there r.1 r.4;
+}
 
 pub next_stands : {B : Type 0} (e : Expression) (k : Part × List Part → Option B) (es : List Expression) → single e ≡ true → ((y : Part) → Stands (λ zs. k (y, zs)) es) → Stands (λ xs. on (next xs) k) (e ∷ es)
-next_stands e k es h st = record { there = λ xs m.
-    let r = cut_single e es h xs m in
-    ap (λ xs. is_some (on (next xs) k)) r.2 ∙ (st r.0).there r.1 r.3 }
+next_stands e k es h st = record {
+  there = λ xs m.
+      let r = cut_single e es h xs m in
+      ap (λ xs. is_some (on (next xs) k)) r.2 ∙ (st r.0).there r.1 r.3;
+}
 
 pub nothing_left : (xs : List Part) → heads xs ≡ [] → xs ≡ []
 nothing_left [] e = refl
@@ -256,14 +262,18 @@ pub some_stands : {B : Type 0} (f : List Part → B) (es : List Expression) → 
 some_stands f es = record { there = λ xs m. refl }
 
 pub last_stands : {B : Type 0} (e : Expression) (f : Part → B) → single e ≡ true → Stands (λ xs. option_map f (last xs)) (e ∷ [])
-last_stands e f h = record { there = λ xs m.
-    let r = cut_single e [] h xs m in
-    ap (λ xs. is_some (option_map f (last xs))) (r.2 ∙ ap (λ zs. r.0 ∷ zs) (nothing_left r.1 r.3)) }
+last_stands e f h = record {
+  there = λ xs m.
+      let r = cut_single e [] h xs m in
+      ap (λ xs. is_some (option_map f (last xs))) (r.2 ∙ ap (λ zs. r.0 ∷ zs) (nothing_left r.1 r.3));
+}
 
 pub last_on_stands : {B : Type 0} (e : Expression) (k : Part → Option B) → single e ≡ true → ((y : Part) → is_some (k y) ≡ true) → Stands (λ xs. on (last xs) k) (e ∷ [])
-last_on_stands e k h all = record { there = λ xs m.
-    let r = cut_single e [] h xs m in
-    ap (λ xs. is_some (on (last xs) k)) (r.2 ∙ ap (λ zs. r.0 ∷ zs) (nothing_left r.1 r.3)) ∙ all r.0 }
+last_on_stands e k h all = record {
+  there = λ xs m.
+      let r = cut_single e [] h xs m in
+      ap (λ xs. is_some (on (last xs) k)) (r.2 ∙ ap (λ zs. r.0 ∷ zs) (nothing_left r.1 r.3)) ∙ all r.0;
+}
 
 pub map_some : {B C : Type 0} (f : B → C) (o : Option B) → is_some (option_map f o) ≡ is_some o
 map_some f None = refl
@@ -309,20 +319,25 @@ unfolding up_to is sign
 up_to_is c e es h xs m =
     let r = cut_row e (a c ∷ es) xs m in
     let o = cut_one (class_number c ∷ []) [] es r.1 r.4 in
-    let n = until_at (c ∷ []) [] r.0 o.0 o.1 (all_away (class_number c ∷ []) [] e h (heads r.0) r.3) o.3 in
-    (r.0, o.1,
+    let n = until_at (c ∷ []) [] r.0 o.0 o.1 (all_away (class_number c ∷ []) [] e h (heads r.0) r.3) o.3 in (
+      r.0,
+      o.1,
       ap (λ xs. up_to c xs) (r.2 ∙ ap (λ zs. r.0 ++ zs) o.2)
-      ∙ ap (λ n. option_map (λ ys. (take n (r.0 ++ o.0 ∷ o.1), ys)) (sign (c ∷ []) (drop n (r.0 ++ o.0 ∷ o.1)))) n
-      ∙ ap (λ zs. option_map (λ ys. (take (length r.0) (r.0 ++ o.0 ∷ o.1), ys)) (sign (c ∷ []) zs)) (drop_front r.0 (o.0 ∷ o.1))
-      ∙ ap (λ (b : Bool). option_map (λ ys. (take (length r.0) (r.0 ++ o.0 ∷ o.1), ys)) (if b then Some o.1 else None)) o.3
-      ∙ ap (λ us. Some (us, o.1)) (take_front r.0 (o.0 ∷ o.1)),
-      r.3, o.4)
+          ∙ ap (λ n. option_map (λ ys. (take n (r.0 ++ o.0 ∷ o.1), ys)) (sign (c ∷ []) (drop n (r.0 ++ o.0 ∷ o.1)))) n
+          ∙ ap (λ zs. option_map (λ ys. (take (length r.0) (r.0 ++ o.0 ∷ o.1), ys)) (sign (c ∷ []) zs)) (drop_front r.0 (o.0 ∷ o.1))
+          ∙ ap (λ (b : Bool). option_map (λ ys. (take (length r.0) (r.0 ++ o.0 ∷ o.1), ys)) (if b then Some o.1 else None)) o.3
+          ∙ ap (λ us. Some (us, o.1)) (take_front r.0 (o.0 ∷ o.1)),
+      r.3,
+      o.4,
+    )
 
 pub up_to_stands : {B : Type 0} (c : Class) (e : Expression) (k : List Part × List Part → Option B) (es : List Expression) → avoids (class_number c ∷ []) [] e ≡ true
     → ((ys : List Part) → Matches e (heads ys) → Stands (λ zs. k (ys, zs)) es) → Stands (λ xs. on (up_to c xs) k) (e ∷ a c ∷ es)
-up_to_stands c e k es h st = record { there = λ xs m.
-    let r = up_to_is c e es h xs m in
-    ap (λ o. is_some (on o k)) r.2 ∙ (st r.0 r.3).there r.1 r.4 }
+up_to_stands c e k es h st = record {
+  there = λ xs m.
+      let r = up_to_is c e es h xs m in
+      ap (λ o. is_some (on o k)) r.2 ∙ (st r.0 r.3).there r.1 r.4;
+}
 
 -- all that stands before a last token
 pub all_to_stands : {B : Type 0} (c : Class) (e : Expression) (k : List Part → Option B) → avoids (class_number c ∷ []) [] e ≡ true
@@ -341,9 +356,11 @@ lone_stands c e h = up_to_stands c e (λ p. ended p.0 p.1) [] h (λ ys w. ended_
 
 -- two expressions in a row as one
 pub joined_stands : {B : Type 0} (k : List Part → Option B) (d e : Expression) (es : List Expression) → Stands k (seq d e ∷ es) → Stands k (d ∷ e ∷ es)
-joined_stands k d e es st = record { there = λ xs m.
-    let n = m.4 in
-    st.there xs (m.0 ++ n.0, n.1, m.2 ∙ ap (λ us. m.0 ++ us) n.2 ∙ sym (append_assoc m.0 n.0 n.1), (m.0, n.0, refl, m.3, n.3), n.4) }
+joined_stands k d e es st = record {
+  there = λ xs m.
+      let n = m.4 in
+      st.there xs (m.0 ++ n.0, n.1, m.2 ∙ ap (λ us. m.0 ++ us) n.2 ∙ sym (append_assoc m.0 n.0 n.1), (m.0, n.0, refl, m.3, n.3), n.4);
+}
 
 pub seq_stands : {B : Type 0} (k : List Part → Option B) (d e : Expression) (es : List Expression) → Stands k (d ∷ e ∷ es) → Stands k (seq d e ∷ es)
 seq_stands k d e es st = record { there = λ xs m. st.there xs (opened d e es (heads xs) m) }
@@ -354,11 +371,13 @@ behind_stands k d e es st = record { there = λ xs m. st.there xs (m.0, m.1, m.2
 
 -- one or the other
 pub either_stands : {B : Type 0} (k : List Part → Option B) (d e : Expression) (es : List Expression) → Stands k (d ∷ es) → Stands k (e ∷ es) → Stands k (either d e ∷ es)
-either_stands k d e es left right = record { there = λ xs m.
-    (elim m.3 as (λ x. is_some (k xs) ≡ true) [
-      | inl x ↦ left.there xs (m.0, m.1, m.2, x, m.4)
-      | inr x ↦ right.there xs (m.0, m.1, m.2, x, m.4)
-    ]) }
+either_stands k d e es left right = record {
+  there = λ xs m.
+      (elim m.3 as (λ x. is_some (k xs) ≡ true) [
+        | inl x ↦ left.there xs (m.0, m.1, m.2, x, m.4)
+        | inr x ↦ right.there xs (m.0, m.1, m.2, x, m.4)
+      ]);
+}
 
 -- a part that may lack, and others behind it
 pub maybe_stands : {B : Type 0} (k : List Part → Option B) (e : Expression) (es : List Expression) → Stands k es → Stands k (flat e es) → Stands k (either nothing e ∷ es)
@@ -395,11 +414,13 @@ may_not_stands cs k es d st = record { there = λ xs m. ap (λ p. is_some (k p))
 pub may_so_stands : {B : Type 0} (cs : List Class) (ds : List ℕ) (k : Bool × List Part → Option B) (es : List Expression) → within ds (map class_number cs) ≡ true
     → Stands (λ zs. k (true, zs)) es → Stands (λ xs. k (may cs xs)) (part ds [] ∷ es)
 unfolding is may
-may_so_stands cs ds k es h st = record { there = λ xs m.
-    let r = cut_one ds [] es xs m in
-    ap (λ xs. is_some (k (may cs xs))) r.2
-    ∙ ap (λ (b : Bool). is_some (k (if b then (true, r.1) else (false, r.0 ∷ r.1)))) (inside_head (map class_number cs) [] ds [] r.0.head h refl r.3)
-    ∙ st.there r.1 r.4 }
+may_so_stands cs ds k es h st = record {
+  there = λ xs m.
+      let r = cut_one ds [] es xs m in
+      ap (λ xs. is_some (k (may cs xs))) r.2
+      ∙ ap (λ (b : Bool). is_some (k (if b then (true, r.1) else (false, r.0 ∷ r.1)))) (inside_head (map class_number cs) [] ds [] r.0.head h refl r.3)
+      ∙ st.there r.1 r.4;
+}
 
 pub may_stands : {B : Type 0} (cs : List Class) (ds : List ℕ) (k : Bool × List Part → Option B) (es : List Expression) → within ds (map class_number cs) ≡ true → edges_away (map class_number cs) [] (firsts_all es) ≡ true
     → ((b : Bool) → Stands (λ zs. k (b, zs)) es) → Stands (λ xs. k (may cs xs)) (either nothing (part ds []) ∷ es)
@@ -415,11 +436,13 @@ pub may_be_stands : {B : Type 0} (cs : List Class) (ds : List ℕ) (k : Option P
 unfolding is may_be
 may_be_stands cs ds k es h d st = maybe_stands (λ xs. k (may_be cs xs)) (part ds []) es
     (record { there = λ xs m. ap (λ p. is_some (k p)) (may_be_none cs es d xs m) ∙ (st None).there xs m })
-    (record { there = λ xs m.
-      let r = cut_one ds [] es xs m in
-      ap (λ xs. is_some (k (may_be cs xs))) r.2
-      ∙ ap (λ (b : Bool). is_some (k (if b then (Some r.0, r.1) else (None, r.0 ∷ r.1)))) (inside_head (map class_number cs) [] ds [] r.0.head h refl r.3)
-      ∙ (st (Some r.0)).there r.1 r.4 })
+    (record {
+      there = λ xs m.
+          let r = cut_one ds [] es xs m in
+          ap (λ xs. is_some (k (may_be cs xs))) r.2
+          ∙ ap (λ (b : Bool). is_some (k (if b then (Some r.0, r.1) else (None, r.0 ∷ r.1)))) (inside_head (map class_number cs) [] ds [] r.0.head h refl r.3)
+          ∙ (st (Some r.0)).there r.1 r.4;
+    })
 
 -- a front of such tokens, and what is left begins with none
 run_none : (cs : List Class) (es : List Expression) → edges_away (map class_number cs) [] (firsts_all es) ≡ true → (xs : List Part) → MatchesAll es (heads xs) → run cs xs ≡ 0
@@ -455,12 +478,14 @@ runs_none cs fs d k st = record { there = λ xs m. ap (λ n. is_some (k (take n 
 
 pub runs_maybe : {B : Type 0} (cs : List Class) (ds : List ℕ) (fs es : List Expression) → within ds (map class_number cs) ≡ true → Runs B cs fs es → Runs B cs fs (either nothing (part ds []) ∷ es)
 unfolding is
-runs_maybe cs ds fs es h r k st = maybe_stands (λ xs. k (split_run cs xs)) (part ds []) es (r k st) (record { there = λ xs m.
-    let o = cut_one ds [] es xs m in
-    ap (λ xs. is_some (k (split_run cs xs))) o.2
-    ∙ ap (λ (b : Bool). is_some (k (let n = (if b then 1 + run cs o.1 else 0) in (take n (o.0 ∷ o.1), drop n (o.0 ∷ o.1))))) (inside_head (map class_number cs) [] ds [] o.0.head h refl o.3)
-    ∙ ap (λ n. is_some (k (take n (o.0 ∷ o.1), drop n (o.0 ∷ o.1)))) (one_suc (run cs o.1))
-    ∙ (r (λ p. k (o.0 ∷ p.0, p.1)) (λ ys. st (o.0 ∷ ys))).there o.1 o.4 })
+runs_maybe cs ds fs es h r k st = maybe_stands (λ xs. k (split_run cs xs)) (part ds []) es (r k st) (record {
+  there = λ xs m.
+      let o = cut_one ds [] es xs m in
+      ap (λ xs. is_some (k (split_run cs xs))) o.2
+      ∙ ap (λ (b : Bool). is_some (k (let n = (if b then 1 + run cs o.1 else 0) in (take n (o.0 ∷ o.1), drop n (o.0 ∷ o.1))))) (inside_head (map class_number cs) [] ds [] o.0.head h refl o.3)
+      ∙ ap (λ n. is_some (k (take n (o.0 ∷ o.1), drop n (o.0 ∷ o.1)))) (one_suc (run cs o.1))
+      ∙ (r (λ p. k (o.0 ∷ p.0, p.1)) (λ ys. st (o.0 ∷ ys))).there o.1 o.4;
+})
 
 -- the first part of what is left is one of these
 abbrev pub edges_within : List ℕ → List ℕ → List Edge → Bool

@@ -114,7 +114,6 @@ pub block_seen : IsSeen form.Block in_braces
 unfolding in_braces expression_of class_number form_number
 block_seen = seen_by form.Block in_braces (sign_stands _ _ _ _ refl (lone_stands _ _ refl))
 
-
 -- without arguments, or with them
 arguments_none : Stands new_arguments []
 unfolding new_arguments
@@ -133,17 +132,19 @@ bracket_inner t p = none_stands _ refl
 
 pub bracket_cast : (t : Part) (p : Bool) (e : Expression) → single e ≡ true → Stands (bracket_end t p) (e ∷ [])
 unfolding bracket_end
-bracket_cast t p e h = record { there = λ xs m.
-    let r = cut_single e [] h xs m in
-    ap (λ xs. is_some (bracket_end t p xs)) (r.2 ∙ ap (λ zs. r.0 ∷ zs) (nothing_left r.1 r.3)) }
+bracket_cast t p e h = record {
+  there = λ xs m.
+      let r = cut_single e [] h xs m in
+      ap (λ xs. is_some (bracket_end t p xs)) (r.2 ∙ ap (λ zs. r.0 ∷ zs) (nothing_left r.1 r.3));
+}
 
 pub bracket_seen : IsSeen form.Bracket bracket
 unfolding bracket expression_of class_number form_number
 bracket_seen = seen_by form.Bracket bracket (sign_stands _ _ _ _ refl (either_stands _ _ _ _
     (flat_stands _ _ _ (next_stands _ _ _ refl (λ t. may_not_stands _ (λ p. on (sign (class.CloseParen ∷ []) p.1) (bracket_end t p.0)) _ refl (sign_stands _ _ _ _ refl (bracket_inner t false)))))
     (flat_stands _ _ _ (either_stands _ _ _ _
-      (flat_stands _ _ _ (next_stands _ _ _ refl (λ t. may_stands _ _ (λ p. on (sign (class.CloseParen ∷ []) p.1) (bracket_end t p.0)) _ refl refl (λ p. sign_stands _ _ _ _ refl (bracket_cast t p _ refl)))))
-      (flat_stands _ _ _ (next_stands _ _ _ refl (λ t. may_stands _ _ (λ p. on (sign (class.CloseParen ∷ []) p.1) (bracket_end t p.0)) _ refl refl (λ p. sign_stands _ _ _ _ refl (bracket_cast t p _ refl)))))))))
+    (flat_stands _ _ _ (next_stands _ _ _ refl (λ t. may_stands _ _ (λ p. on (sign (class.CloseParen ∷ []) p.1) (bracket_end t p.0)) _ refl refl (λ p. sign_stands _ _ _ _ refl (bracket_cast t p _ refl)))))
+    (flat_stands _ _ _ (next_stands _ _ _ refl (λ t. may_stands _ _ (λ p. on (sign (class.CloseParen ∷ []) p.1) (bracket_end t p.0)) _ refl refl (λ p. sign_stands _ _ _ _ refl (bracket_cast t p _ refl)))))))))
 
 -- templates with their arguments
 generic_total : (ds gs : List ℕ) → within gs (class_number class.TypeLess ∷ class_number class.FunctionLess ∷ []) ≡ true → Stands generic (seq (part ds []) (seq (part gs []) type_arguments) ∷ [])

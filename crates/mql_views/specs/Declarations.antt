@@ -72,8 +72,14 @@ pub record Param : Type 0 where
 unfoldable pub param_end : Bool → Typed → Bool → Part → List Part → Option Param
 param_end c t r n xs =
     let k = until (class.Assign ∷ []) [] xs in
-    option_map (λ e. record { constant = c; typed = t; reference = r; name = n;
-       dimensions = take k xs; preset = e })
+    option_map (λ e. record {
+      constant = c;
+      typed = t;
+      reference = r;
+      name = n;
+      dimensions = take k xs;
+      preset = e;
+    })
     (preset_of (drop k xs))
 
 unfoldable pub param_typed : Bool → Part → List Part → Option Param
@@ -157,8 +163,17 @@ unfoldable pub function_end : Title → List Part → List Part → Option Funct
 function_end t ps xs =
     let b = bases_cut xs in
     let o = may (class.Override ∷ []) b.1 in
-    option_map (λ body. record { words = t.words; result = t.result; scope = t.scope;
-      destructor = t.destructor; name = t.name; params = ps; bases = b.0; overrides = o.0; body = body }) (body_of o.1)
+    option_map (λ body. record {
+      words = t.words;
+      result = t.result;
+      scope = t.scope;
+      destructor = t.destructor;
+      name = t.name;
+      params = ps;
+      bases = b.0;
+      overrides = o.0;
+      body = body;
+    }) (body_of o.1)
 
 unfoldable pub function_params : Title → List Part → Option Function
 function_params t xs =

@@ -80,11 +80,17 @@ pair_seen p = (part_seen p.0, part_seen p.1)
 
 abbrev pub between_seen : Between → values.Between
 between_seen b = record {
-  left = part_seen b.left; operator = part_seen b.operator; right = part_seen b.right }
+  left = part_seen b.left;
+  operator = part_seen b.operator;
+  right = part_seen b.right;
+}
 
 abbrev pub conditional_seen : Conditional → values.Conditional
 conditional_seen c = record {
-  test = part_seen c.test; chosen = part_seen c.chosen; other = part_seen c.other }
+  test = part_seen c.test;
+  chosen = part_seen c.chosen;
+  other = part_seen c.other;
+}
 
 abbrev pub bracket_seen : Bracket → values.Bracket
 bracket_seen (code_bracket.Inner v) = values.Inner (part_seen v)
@@ -104,8 +110,13 @@ preset_seen p = maybe_seen p
 
 abbrev pub param_seen : Param → declarations.Param
 param_seen p = record {
-  constant = p.constant; typed = type_seen p.typed; reference = p.reference; name = part_seen p.name;
-  dimensions = all p.dimensions; preset = maybe_seen p.preset }
+  constant = p.constant;
+  typed = type_seen p.typed;
+  reference = p.reference;
+  name = part_seen p.name;
+  dimensions = all p.dimensions;
+  preset = maybe_seen p.preset;
+}
 
 abbrev pub body_seen : Body → declarations.Body
 body_seen (code_body.Block b) = declarations.Block (part_seen b)
@@ -114,14 +125,25 @@ body_seen code_body.Pure = declarations.Pure
 
 abbrev pub title_seen : Title → declarations.Title
 title_seen t = record {
-  words = all t.words; result = option_map type_seen t.result; scope = maybe_seen t.scope;
-  destructor = t.destructor; name = part_seen t.name }
+  words = all t.words;
+  result = option_map type_seen t.result;
+  scope = maybe_seen t.scope;
+  destructor = t.destructor;
+  name = part_seen t.name;
+}
 
 abbrev pub function_seen : Function → declarations.Function
 function_seen f = record {
-  words = all f.words; result = option_map type_seen f.result; scope = maybe_seen f.scope;
-  destructor = f.destructor; name = part_seen f.name; params = all f.params; bases = all f.bases;
-  overrides = f.overrides; body = body_seen f.body }
+  words = all f.words;
+  result = option_map type_seen f.result;
+  scope = maybe_seen f.scope;
+  destructor = f.destructor;
+  name = part_seen f.name;
+  params = all f.params;
+  bases = all f.bases;
+  overrides = f.overrides;
+  body = body_seen f.body;
+}
 
 abbrev pub start_seen : Start → declarations.Start
 start_seen code_start.Zero = declarations.Zero
@@ -130,8 +152,12 @@ start_seen (code_start.Arguments xs) = declarations.Arguments (all xs)
 
 abbrev pub variable_seen : Variable → declarations.Variable
 variable_seen v = record {
-  pointer = v.pointer; scope = maybe_seen v.scope; name = part_seen v.name; dimensions = all v.dimensions;
-  start = start_seen v.start }
+  pointer = v.pointer;
+  scope = maybe_seen v.scope;
+  name = part_seen v.name;
+  dimensions = all v.dimensions;
+  start = start_seen v.start;
+}
 
 abbrev pub variables_seen : Variables → declarations.Variables
 variables_seen v = record { words = all v.words; type = part_seen v.of; items = all v.items }
@@ -150,8 +176,11 @@ parents_seen p = (option_map parent_seen p.0, all p.1)
 
 abbrev pub class_seen : ClassParts → declarations.Class'
 class_seen c = record {
-  kind = part_seen c.kind; name = part_seen c.name; parent = option_map parent_seen c.parent;
-  members = option_map all c.members }
+  kind = part_seen c.kind;
+  name = part_seen c.name;
+  parent = option_map parent_seen c.parent;
+  members = option_map all c.members;
+}
 
 abbrev pub if_seen : If → statements.If
 if_seen i = record { test = part_seen i.test; chosen = part_seen i.chosen; other = maybe_seen i.other }
@@ -162,7 +191,11 @@ simple_seen (code_simple.Values xs) = statements.Values (all xs)
 
 abbrev pub for_seen : For → statements.For
 for_seen f = record {
-  start = simple_seen f.start; test = maybe_seen f.test; step = all f.step; body = part_seen f.body }
+  start = simple_seen f.start;
+  test = maybe_seen f.test;
+  step = all f.step;
+  body = part_seen f.body;
+}
 
 abbrev pub switch_seen : Switch → statements.Switch
 switch_seen s = record { value = part_seen s.value; body = all s.body }

@@ -59,7 +59,11 @@ pub(crate) fn split<'a>(at: usize, parts: &'a [Part<'a>]) -> (&'a [Part<'a>], &'
 
 /// The front part, which is one of these, and the parts behind it.
 #[tactic(auto, unfolding(crate::specs::Cuts::must))]
-pub(crate) fn must<'a>(wanted: &[Class], forms: &[Form], parts: &'a [Part<'a>]) -> Option<(Part<'a>, &'a [Part<'a>])>
+pub(crate) fn must<'a>(
+    wanted: &[Class],
+    forms: &[Form],
+    parts: &'a [Part<'a>],
+) -> Option<(Part<'a>, &'a [Part<'a>])>
     ensures { option_map cut_seen result ≡ must wanted.now forms.now (seen parts.now) }
 {
     match parted(parts) {
@@ -133,7 +137,10 @@ pub(crate) fn may<'a>(wanted: &[Class], parts: &'a [Part<'a>]) -> (bool, &'a [Pa
 
 /// The front part if it is one of these tokens, and the parts behind it.
 #[tactic(auto, unfolding(crate::specs::Cuts::may_be))]
-pub(crate) fn may_be<'a>(wanted: &[Class], parts: &'a [Part<'a>]) -> (Option<Part<'a>>, &'a [Part<'a>])
+pub(crate) fn may_be<'a>(
+    wanted: &[Class],
+    parts: &'a [Part<'a>],
+) -> (Option<Part<'a>>, &'a [Part<'a>])
     ensures { may_be_seen result ≡ may_be wanted.now (seen parts.now) }
 {
     match parted(parts) {
@@ -150,7 +157,10 @@ pub(crate) fn may_be<'a>(wanted: &[Class], parts: &'a [Part<'a>]) -> (Option<Par
 
 /// The parts up to a token, and those behind it.
 #[tactic(auto, unfolding(crate::specs::Cuts::up_to))]
-pub(crate) fn up_to<'a>(wanted: Class, parts: &'a [Part<'a>]) -> Option<(&'a [Part<'a>], &'a [Part<'a>])>
+pub(crate) fn up_to<'a>(
+    wanted: Class,
+    parts: &'a [Part<'a>],
+) -> Option<(&'a [Part<'a>], &'a [Part<'a>])>
     ensures { option_map split_seen result ≡ up_to wanted (seen parts.now) }
 {
     let (front, rest) = split(until(&[wanted], &[], parts), parts);

@@ -117,13 +117,29 @@ pub struct ClassParts<'a> {
 }
 
 const FUNCTION_WORDS: [Class; 3] = [Class::Virtual, Class::Static, Class::Const];
-pub(crate) const STORE_WORDS: [Class; 4] = [Class::Input, Class::StaticInput, Class::Static, Class::Const];
+
+pub(crate) const STORE_WORDS: [Class; 4] = [
+    Class::Input,
+    Class::StaticInput,
+    Class::Static,
+    Class::Const,
+];
+
 pub(crate) const LOCAL_WORDS: [Class; 2] = [Class::Static, Class::Const];
+
 const NAMES: [Class; 2] = [Class::Name, Class::TypeName];
+
 const TYPES: [Class; 3] = [Class::TypeName, Class::SimpleType, Class::Void];
+
 const REFERENCES: [Class; 2] = [Class::Ampersand, Class::Reference];
-const BEHIND_TYPE: [Class; 5] =
-    [Class::Tilde, Class::Star, Class::PointerStar, Class::Name, Class::TypeName];
+
+const BEHIND_TYPE: [Class; 5] = [
+    Class::Tilde,
+    Class::Star,
+    Class::PointerStar,
+    Class::Name,
+    Class::TypeName,
+];
 
 #[tactic(auto, unfolding(crate::specs::Declarations::is_typed))]
 fn is_typed<'a>(parts: &'a [Part<'a>]) -> bool
@@ -209,7 +225,14 @@ fn param_end<'a>(
     let (dimensions, rest) = split(until(&[Class::Assign], &[], parts), parts);
     match preset_of(rest) {
         None => None,
-        Some(preset) => Some(Param { constant, typed, reference, name, dimensions, preset }),
+        Some(preset) => Some(Param {
+            constant,
+            typed,
+            reference,
+            name,
+            dimensions,
+            preset,
+        }),
     }
 }
 
@@ -329,7 +352,11 @@ fn body_of<'a>(parts: &'a [Part<'a>]) -> Option<Body<'a>>
 }
 
 #[tactic(auto, unfolding(crate::specs::Declarations::function_end))]
-fn function_end<'a>(title: Title<'a>, params: &'a [Part<'a>], parts: &'a [Part<'a>]) -> Option<Function<'a>>
+fn function_end<'a>(
+    title: Title<'a>,
+    params: &'a [Part<'a>],
+    parts: &'a [Part<'a>],
+) -> Option<Function<'a>>
     ensures { option_map function_seen result
         ≡ views.function_end (title_seen title.entry) (seen params.now) (seen parts.now) }
 {
@@ -377,12 +404,22 @@ fn function_named<'a>(
 {
     let (name, rest) = must(&NAMES, &[], parts)?;
     let rest = sign(&[Class::OpenParen], rest)?;
-    let title = Title { words, result: of, scope, destructor, name };
+    let title = Title {
+        words,
+        result: of,
+        scope,
+        destructor,
+        name,
+    };
     function_params(title, rest)
 }
 
 #[tactic(auto, unfolding(crate::specs::Declarations::function_typed))]
-fn function_typed<'a>(words: &'a [Part<'a>], of: Option<Typed<'a>>, parts: &'a [Part<'a>]) -> Option<Function<'a>>
+fn function_typed<'a>(
+    words: &'a [Part<'a>],
+    of: Option<Typed<'a>>,
+    parts: &'a [Part<'a>],
+) -> Option<Function<'a>>
     ensures { option_map function_seen result
         ≡ views.function_typed (seen words.now) (option_map type_seen of.entry) (seen parts.now) }
 {
@@ -442,7 +479,13 @@ fn variable_end<'a>(
     let (dimensions, rest) = split(until(&[Class::Assign, Class::OpenParen], &[], parts), parts);
     match start_of(rest) {
         None => None,
-        Some(start) => Some(Variable { pointer, scope, name, dimensions, start }),
+        Some(start) => Some(Variable {
+            pointer,
+            scope,
+            name,
+            dimensions,
+            start,
+        }),
     }
 }
 
@@ -516,7 +559,10 @@ pub fn read_enumeration<'a>(parts: &'a [Part<'a>]) -> Option<Enumeration<'a>>
 }
 
 #[tactic(auto, unfolding(crate::specs::Declarations::parent_behind))]
-fn parent_behind<'a>(access: Option<Part<'a>>, parts: &'a [Part<'a>]) -> Option<(Option<Parent<'a>>, &'a [Part<'a>])>
+fn parent_behind<'a>(
+    access: Option<Part<'a>>,
+    parts: &'a [Part<'a>],
+) -> Option<(Option<Parent<'a>>, &'a [Part<'a>])>
     ensures { option_map parents_seen result
         ≡ views.parent_behind (maybe_seen access.entry, seen parts.now) }
 {
@@ -552,7 +598,12 @@ fn class_end<'a>(kind: Part<'a>, name: Part<'a>, parts: &'a [Part<'a>]) -> Optio
         None => None,
         Some((parent, rest)) => match braced(rest) {
             None => None,
-            Some(members) => Some(ClassParts { kind, name, parent, members: Some(members) }),
+            Some(members) => Some(ClassParts {
+                kind,
+                name,
+                parent,
+                members: Some(members),
+            }),
         },
     }
 }
@@ -564,7 +615,12 @@ fn class_behind<'a>(kind: Part<'a>, name: Part<'a>, parts: &'a [Part<'a>]) -> Op
 {
     let (first, _) = parted(parts)?;
     if is(&[Class::Semicolon], &[], first) {
-        Some(ClassParts { kind, name, parent: None, members: None })
+        Some(ClassParts {
+            kind,
+            name,
+            parent: None,
+            members: None,
+        })
     } else {
         class_end(kind, name, parts)
     }

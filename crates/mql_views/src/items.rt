@@ -4,7 +4,9 @@ ghost use Rattle.mql_views.specs.Items as items;
 ghost use Rattle.mql_views.specs.Seen.{part_seen, seen, variables_seen, declaration_seen, item_seen, split_seen, templated_seen, template_seen, member_seen};
 
 use crate::cuts::{all_to, must, next, parted, sign, up_to};
-use crate::declarations::{Function, LOCAL_WORDS, STORE_WORDS, Variables, read_function, read_variables};
+use crate::declarations::{
+    Function, LOCAL_WORDS, STORE_WORDS, Variables, read_function, read_variables,
+};
 use crate::part::{Part, is};
 use mql_forms::Form;
 use mql_grammar::Class;
@@ -140,7 +142,10 @@ fn member_template<'a>(parts: &'a [Part<'a>]) -> Option<Member<'a>>
 {
     let (params, rest) = template_head(parts)?;
     let function = read_function(rest)?;
-    Some(Member { params, declares: Declaration::Function(function) })
+    Some(Member {
+        params,
+        declares: Declaration::Function(function),
+    })
 }
 
 /// The named parts of a member of a class.
@@ -154,7 +159,10 @@ pub fn read_member<'a>(parts: &'a [Part<'a>]) -> Option<Member<'a>>
     } else {
         match read_declaration(&LOCAL_WORDS, parts) {
             None => None,
-            Some(declares) => Some(Member { params: &[], declares }),
+            Some(declares) => Some(Member {
+                params: &[],
+                declares,
+            }),
         }
     }
 }

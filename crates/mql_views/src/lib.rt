@@ -11,8 +11,9 @@ mod values;
 
 pub use cuts::{parted, piece};
 pub use declarations::{
-    Body, ClassParts, Enumeration, Enumerator, Function, Param, Parent, Start, Typed, Variable, Variables,
-    read_class, read_enumeration, read_enumerator, read_function, read_param, read_variable,
+    Body, ClassParts, Enumeration, Enumerator, Function, Param, Parent, Start, Typed, Variable,
+    Variables, read_class, read_enumeration, read_enumerator, read_function, read_param,
+    read_variable,
 };
 pub use items::{
     Declaration, Item, Member, Template, Templated, read_item, read_member, read_template,

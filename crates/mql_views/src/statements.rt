@@ -56,11 +56,19 @@ fn if_end<'a>(test: Part<'a>, chosen: Part<'a>, parts: &'a [Part<'a>]) -> Option
         ≡ statements.if_end (part_seen test.entry) (part_seen chosen.entry) (seen parts.now) }
 {
     match parted(parts) {
-        None => Some(If { test, chosen, other: None }),
+        None => Some(If {
+            test,
+            chosen,
+            other: None,
+        }),
         Some(_) => {
             let rest = sign(&[Class::Else], parts)?;
             let other = last(rest)?;
-            Some(If { test, chosen, other: Some(other) })
+            Some(If {
+                test,
+                chosen,
+                other: Some(other),
+            })
         }
     }
 }
@@ -159,7 +167,12 @@ fn for_end<'a>(
 {
     let start = local_or_values(start)?;
     let test = at_most_one(test)?;
-    Some(For { start, test, step, body })
+    Some(For {
+        start,
+        test,
+        step,
+        body,
+    })
 }
 
 /// The named parts of a `for`.

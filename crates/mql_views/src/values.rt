@@ -60,7 +60,11 @@ pub fn read_between<'a>(parts: &'a [Part<'a>]) -> Option<Between<'a>>
     let (left, rest) = next(parts)?;
     let (operator, rest) = next(rest)?;
     let right = last(rest)?;
-    Some(Between { left, operator, right })
+    Some(Between {
+        left,
+        operator,
+        right,
+    })
 }
 
 /// The named parts of `?:`.
@@ -73,7 +77,11 @@ pub fn read_conditional<'a>(parts: &'a [Part<'a>]) -> Option<Conditional<'a>>
     let (chosen, rest) = next(rest)?;
     let rest = sign(&[Class::Colon], rest)?;
     let other = last(rest)?;
-    Some(Conditional { test, chosen, other })
+    Some(Conditional {
+        test,
+        chosen,
+        other,
+    })
 }
 
 /// An array, and the index of an element.
