@@ -1,0 +1,6 @@
+pub mod Stands
+pub mod ValueForms
+pub mod StatementForms
+pub mod DeclarationForms
+pub mod FunctionForms
+pub mod ItemForms
