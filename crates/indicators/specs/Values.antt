@@ -19,7 +19,8 @@ use Rattle.indicators.specs.Averages.{simple, smoothed, average}
 
 -- 100 times the rises over rises and falls; 50 where there are neither
 abbrev pub strength : ℕ → ℕ → ℕ
-strength rises falls = if rises + falls == 0 then 50 * 10 ^ 8 else nearest (100 * 10 ^ 8 * rises) (rises + falls)
+strength rises falls =
+    if rises + falls == 0 then 50 * 10 ^ 8 else nearest (100 * 10 ^ 8 * rises) (rises + falls)
 
 -- the smoothed mean of the changes of prices one way
 abbrev pub smoothed_changes : Way → ℕ → List ℕ → ℕ
@@ -41,8 +42,8 @@ value_of (kind.RelativeStrength p) n bars = relative_strength n (map (applied_pr
 unfoldable pub told : Indicator → List Bar → ℕ
 told indicator bars = value_of indicator.kind indicator.length (take (length bars - indicator.shift) bars)
 
--- the kinds, methods and prices by their numbers (MQL5 Reference, ENUM_MA_METHOD, ENUM_APPLIED_PRICE; those of
--- the kinds are own)
+-- the kinds, methods and prices by their numbers (MQL5 Reference, ENUM_MA_METHOD, ENUM_APPLIED_PRICE; those
+-- of the kinds are own)
 abbrev pub method_of : ℕ → Option Method
 method_of n =
     if n == 0 then Some method.Simple else (if n == 1 then Some method.Exponential else
@@ -50,8 +51,9 @@ method_of n =
 
 abbrev pub price_of : ℕ → Option AppliedPrice
 price_of n =
-    if n == 1 then Some price.Close else (if n == 2 then Some price.Open else (if n == 3 then Some price.High else
-    (if n == 4 then Some price.Low else (if n == 5 then Some price.Median else (if n == 6 then Some price.Typical else
+    if n == 1 then Some price.Close else (if n == 2 then Some price.Open else
+    (if n == 3 then Some price.High else (if n == 4 then Some price.Low else
+    (if n == 5 then Some price.Median else (if n == 6 then Some price.Typical else
     (if n == 7 then Some price.Weighted else None))))))
 
 abbrev pub moving_average : Option Method → Option AppliedPrice → Option Kind

@@ -19,7 +19,8 @@ part start count xs = take count (drop (length xs - (start + count)) xs)
 
 -- an answer, where there are bars enough
 abbrev pub with_enough : {A : Type 0} → ℕ → ℕ → ℕ → A → Result A SeriesFault
-with_enough start count told answer = if nat_lt told (start + count) then Err (fault.NotEnough told) else Ok answer
+with_enough start count told answer =
+    if nat_lt told (start + count) then Err (fault.NotEnough told) else Ok answer
 
 -- the bars that a copy of the bars told gives
 abbrev pub copied : ℕ → ℕ → List Bar → Result (List Bar) SeriesFault
@@ -37,7 +38,8 @@ values_told i start count seen = values_from i seen (length seen - (start + coun
 -- the values that a copy of an indicator's buffer gives over all bars of its symbol and period
 abbrev pub buffered : Held → ℕ → ℕ → List Bar → Result (List ℤ) SeriesFault
 buffered h start count bars =
-    with_enough start count (length (newest most_told bars)) (values_told h.indicator start count (drop h.first bars))
+    with_enough start count (length (newest most_told bars))
+    (values_told h.indicator start count (drop h.first bars))
 
 -- the same by the indicator's number
 abbrev pub buffered_at : List ℕ → Option Held → ℕ → ℕ → List Quote → Result (List ℤ) SeriesFault
@@ -46,7 +48,8 @@ buffered_at digits (Some h) start count quotes =
     buffered h start count (all_bars digits h.spec.symbol h.spec.period quotes)
 
 -- a list is filled with an answer, or stays as it was
-abbrev pub Fills : {A U : Type 0} → Result (List A) SeriesFault → List A → Result U SeriesFault → List A → Type 0
+abbrev pub Fills : {A U : Type 0} → Result (List A) SeriesFault → List A → Result U SeriesFault → List A
+    → Type 0
 Fills (Ok items) old (Ok _) new = new ≡ items
 Fills (Ok items) old (Err e) new = (e ≡ fault.OutOfMemory) × (new ≡ old)
 Fills (Err f) old (Ok _) new = ⊥
@@ -75,7 +78,10 @@ pub record Numbered : Type 0 where
 abbrev pub held_anew : Indicator → IndicatorSpec → ℕ → List Held → Result Numbered SeriesFault
 held_anew i spec first held =
     if nat_lt (length held) 64
-    then Ok (record { number = length held; held = held ++ record { spec = spec; indicator = i; first = first } ∷ [] })
+    then Ok (record {
+      number = length held;
+      held = held ++ record { spec = spec; indicator = i; first = first } ∷ [];
+    })
     else Err fault.TooMany
 
 -- one that is held already has its number

@@ -1,5 +1,5 @@
--- The bars that quotes make (MQL5 Reference, Timeseries and Indicators Access, structure MqlRates; MetaTrader 5
--- Help, Strategy Tester: bars are built by Bid).
+-- The bars that quotes make (MQL5 Reference, Timeseries and Indicators Access, structure MqlRates; MetaTrader
+-- 5 Help, Strategy Tester: bars are built by Bid).
 use Rattle.std.specs.Prelude.{ℕ, ◌+◌, ◌-◌, ◌*◌, ◌/◌, ◌^◌, ◌==◌, min, ℤ, pos, unsigned_abs, List, [], ◌∷◌, length, map, Option, Some, None, if◌then◌else◌, slice_get}
 use Rattle.std.specs.List.{fold, filter}
 use Rattle.std.specs.Int.{int_max, int_min}
@@ -26,7 +26,9 @@ group first others = record { first = first; others = others }
 abbrev pub grouped : Period → Quote → List Group → List Group
 grouped period q [] = group q [] ∷ []
 grouped period q (g ∷ groups) =
-    if opens period q == opens period g.first then group q (g.first ∷ g.others) ∷ groups else group q [] ∷ g ∷ groups
+    if opens period q == opens period g.first
+    then group q (g.first ∷ g.others) ∷ groups
+    else group q [] ∷ g ∷ groups
 
 -- the quotes of each bar, in order
 abbrev pub groups : Period → List Quote → List Group
@@ -49,8 +51,8 @@ lots q = unsigned_abs q.volume
 abbrev pub traded : Group → ℕ
 traded g = fold (λ (sum : ℕ) (q : Quote). sum + lots q) (lots g.first) g.others
 
--- the bar of quotes: open, high, low and close are the first, greatest, least and last Bid; the tick volume is
--- the number of quotes, the spread that of the last, the volume the whole part of what is traded
+-- the bar of quotes: open, high, low and close are the first, greatest, least and last Bid; the tick volume
+-- is the number of quotes, the spread that of the last, the volume the whole part of what is traded
 abbrev pub bar_of : Period → ℕ → Group → Bar
 bar_of period digits g = record {
   time = pos (opens period g.first);

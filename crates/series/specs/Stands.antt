@@ -11,7 +11,10 @@ use Rattle.series.specs.Symbols.{of_period}
 
 -- the history that quotes of a symbol make
 unfoldable pub history : Period → ℕ → List Quote → History
-history period digits quotes = record { bars = bars period digits quotes; traded = newest_traded period quotes }
+history period digits quotes = record {
+  bars = bars period digits quotes;
+  traded = newest_traded period quotes;
+}
 
 -- the histories of a symbol are those of its quotes
 abbrev pub AreHistories : Histories → List Quote → Type 0
