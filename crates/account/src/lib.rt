@@ -13,6 +13,8 @@ mod order;
 mod position;
 mod prices;
 mod stats;
+#[cfg(test)]
+mod tests;
 mod totals;
 
 pub use account_spec::AccountSpec;

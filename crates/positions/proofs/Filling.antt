@@ -40,7 +40,7 @@ is_buy_of : (b : Bool) → is_buy (kind_of b) ≡ b
 is_buy_of true = refl
 is_buy_of false = refl
 
-not_balance : (b : Bool) → is_balance (kind_of b) ≡ false
+pub not_balance : (b : Bool) → is_balance (kind_of b) ≡ false
 not_balance true = refl
 not_balance false = refl
 
@@ -98,15 +98,15 @@ reversed_held specs f p v g h n l =
 dealt_held : (specs : List SymbolSpec) (f : Fill) (p : Position) → pos 0 <ℤ f.volume → FitsSigned w64 f.volume → FitsSigned w64 f.price → IsHeld p → (same_side p.buy f.buy ≡ true → FitsSigned w64 (p.volume +ℤ f.volume)) → IfSome (dealt (deal_on specs f (Some p)) p) IsHeld
 dealt_held specs f p s v g h m =
     (elim (same_side p.buy f.buy) as (λ b. same_side p.buy f.buy ≡ b → IfSome (dealt (cond b (plain specs f p.ticket entry.In) (closed specs f p)) p) IsHeld) [
-      true ↦ λ e. rw (is_buy_of f.buy) (rw e (added_held specs f p s g h (m e)))
-    | false ↦ λ e. rw (is_buy_of f.buy) (rw e (
+      true ↦ λ e. let side : same_side p.buy (is_buy (kind_of f.buy)) ≡ true = ap (λ (x : Bool). same_side p.buy x) (is_buy_of f.buy) ∙ e in rw side (added_held specs f p s g h (m e))
+    | false ↦ λ e. let side : same_side p.buy (is_buy (kind_of f.buy)) ≡ false = ap (λ (x : Bool). same_side p.buy x) (is_buy_of f.buy) ∙ e in rw side (
         (elim (int_lt f.volume p.volume) as (λ c. int_lt f.volume p.volume ≡ c → IfSome (cond c (Some (reduced (closed specs f p) p)) (cond (int_lt p.volume f.volume) (Some (reversed (closed specs f p) p)) None)) IsHeld) [
           true ↦ λ l. reduced_held specs f p s h l
         | false ↦ λ n. (elim (int_lt p.volume f.volume) as (λ d. int_lt p.volume f.volume ≡ d → IfSome (cond d (Some (reversed (closed specs f p) p)) None) IsHeld) [
             true ↦ λ l. reversed_held specs f p v g h n l
           | false ↦ λ l. tt
           ]) refl
-        ]) refl))
+        ]) refl)
     ]) refl
 
 -- a position keeps the types of its numbers before and after the deal of a fill

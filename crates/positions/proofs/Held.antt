@@ -23,7 +23,7 @@ portion_left a (pos m) (pos n) f s h = part_left a m n f (omega (arith, ints, s,
 portion_left a (negsuc m) whole f s h = absurd (omega (arith, ints, s))
 portion_left a (pos m) (negsuc n) f s h = absurd (omega (arith, ints, h))
 
-high : (m : ℕ) (p : ℤ) → FitsSigned w64 p → pos m *ℤ p ≤ℤ pos (m * (2 ^ 63 - 1))
+high : (m : ℕ) (p : ℤ) → FitsSigned w64 p → (pos m *ℤ p) ≤ℤ pos (m * (2 ^ 63 - 1))
 high m (pos j) f = let g : m * j ≤ m * (2 ^ 63 - 1) = mul-le m j m (2 ^ 63 - 1) (omega arith) (omega (arith, ints, f)) in omega (arith, ints, g)
 high m (negsuc j) f = rw (pos-*ℤ-negsuc m j) (omega (arith, ints))
 

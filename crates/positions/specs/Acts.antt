@@ -6,10 +6,13 @@ use Rattle.account.specs.declared.position.Position.{Position}
 use Rattle.account.specs.declared.event.Event.{Event}
 use Rattle.account.specs.declared.event.Event.TheVariants as event
 use Rattle.account.specs.Keyed.{Rising}
-use Rattle.account.specs.Positions.{position_ticket}
+use Rattle.account.specs.Positions.{position_ticket, after_deal}
 use Rattle.account.specs.Ranges.{IsHeld}
 use Rattle.positions.specs.declared.fill.Levels.{Levels}
 use Rattle.positions.specs.declared.acts.Change.{Change}
+use Rattle.positions.specs.declared.acts.Act.{Act}
+use Rattle.positions.specs.declared.fill.Fill.{Fill}
+use Rattle.positions.specs.Fills.{deal_on, levels_of, stops_event}
 
 -- open positions by rising ticket, each of which keeps the types of its numbers
 pub record IsOpen (ps : List Position) : Type 0 where
@@ -30,3 +33,9 @@ differing ticket sl tp l =
 pub record Held : Type 0 where
   pub specs : List SymbolSpec
   pub positions : List Position
+
+-- the deal of a fill that meets a position, twice, and the change of stops that follows
+pub record IsActOf (specs : List SymbolSpec) (f : Fill) (o : Option Position) (act : Act) : Type 0 where
+  pub deal : act.deal ≡ deal_on specs f o
+  pub opening : act.opening ≡ deal_on specs f o
+  pub stops : change_events act.stops ≡ stops_event (after_deal (deal_on specs f o) o) (levels_of f o)

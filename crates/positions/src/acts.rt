@@ -1,6 +1,7 @@
 //! What a fill makes of open positions.
-ghost use Rattle.std.specs.Prelude.{◌≡◌, ◌==◌, ◌∷◌, ◌++◌, [], IfSome, OnOk, OnErr, All, length, ◌≤◌, slice_get, is_some};
+ghost use Rattle.std.specs.Prelude.{◌≡◌, ◌==◌, ◌∷◌, ◌++◌, [], IfSome, OnOk, OnErr, All, length, ◌≤◌, ◌<◌, slice_get, is_some, IfOk, pos, ◌<ℤ◌, FitsSigned};
 ghost use Rattle.std.specs.List.{find, fold};
+ghost use Rattle.std.specs.Int.{w64};
 ghost use Rattle.std.specs.Option.{option_copied};
 ghost use Rattle.market_types.specs.Ranges.{IsSpec};
 ghost use Rattle.account.specs.Keyed.{item, Rising};
@@ -9,7 +10,7 @@ ghost use Rattle.account.specs.Ranges.{IsHeld, KeepsTypes};
 ghost use Rattle.account.specs.Firing.{reaches_sl, reaches_tp, stop_reason, stops, stopped_positions};
 ghost use Rattle.account.specs.declared.event.Event.TheVariants as event;
 ghost use Rattle.positions.specs.Fills.{met, refusal, named_refusal, closing_refusal, levels_of, stops_event, filled, Leaves, IsFill, MayAdd};
-ghost use Rattle.positions.specs.Acts.{IsOpen, change_events, differing};
+ghost use Rattle.positions.specs.Acts.{IsOpen, IsActOf, change_events, differing};
 
 use crate::fill::{deal_on, levels_of};
 use crate::{Fill, FillFault, Levels};
@@ -65,7 +66,7 @@ fn closing_refusal(hedging: bool, fill: &Fill, position: &Position) -> Option<Fi
 
 /// Why a fill that names a position is refused.
 fn named_refusal(hedging: bool, fill: &Fill, on: Option<&Position>) -> Option<FillFault>
-    ensures { result ≡ named_refusal hedging fill.now (option_copied on) }
+    ensures { result ≡ named_refusal hedging fill.now (option_copied on.entry) }
 {
     match on {
         None => Some(FillFault::PositionClosed),
@@ -115,7 +116,7 @@ fn change_to(ticket: u64, sl: Fix8, tp: Fix8, levels: Levels) -> Option<Change>
 
 /// The change of stops that follows a deal.
 fn stops_after(fill: &Fill, deal: &Deal, on: Option<&Position>) -> Option<Change>
-    ensures { change_events result ≡ stops_event (after_deal deal.now (option_copied on)) (levels_of fill.now (option_copied on)) }
+    ensures { change_events result ≡ stops_event (after_deal deal.now (option_copied on.entry)) (levels_of fill.now (option_copied on.entry)) }
 {
     let levels = levels_of(fill, on);
     match on {
@@ -130,21 +131,76 @@ fn stops_after(fill: &Fill, deal: &Deal, on: Option<&Position>) -> Option<Change
     }
 }
 
+/// The event of a change of stops.
+fn event_of(change: &Change) -> Event
+    ensures { result ≡ event.Stops change.now.ticket change.now.sl change.now.tp }
+{
+    Event::Stops {
+        ticket: change.ticket,
+        sl: change.sl,
+        tp: change.tp,
+    }
+}
+
 /// Adds a deal and a change of stops. A refused call adds none.
-fn push_act(out: &mut EventList, deal: Deal, stops: Option<Change>) -> Result<(), OutOfMemory>
-    ensures ok { OnOk result (out.new ≡ out.old ++ event.Added deal ∷ change_events stops) }
+fn push_act(out: &mut EventList, deal: Deal, stops: &Option<Change>) -> Result<(), OutOfMemory>
+    ensures ok { OnOk result (out.new ≡ out.old ++ event.Added deal ∷ change_events stops.now) }
     ensures err { OnErr result (out.new ≡ out.old) }
 {
     let before = out.len();
     out.push(Event::Added(deal))?;
-    let Some(Change { ticket, sl, tp }) = stops else {
+    let Some(change) = stops else {
         return Ok(());
     };
-    if out.push(Event::Stops { ticket, sl, tp }).is_err() {
+    if out.push(event_of(change)).is_err() {
         out.truncate(before);
         return Err(OutOfMemory);
     }
     Ok(())
+}
+
+/// What a fill does: its deal, once for the events and once for the position that it may open, and the
+/// change of stops that follows.
+#[derive(Debug, Drop)]
+pub(crate) struct Act {
+    deal: Deal,
+    opening: Deal,
+    stops: Option<Change>,
+}
+
+/// What a fill does to the position that it meets.
+fn act_of(
+    hedging: bool,
+    alloc: Global,
+    specs: &Specs,
+    positions: &[Position],
+    fill: &Fill,
+) -> Result<Act, OutOfMemory>
+    requires symbol { fill.now.symbol < length specs.now }
+    requires specs { All IsSpec specs.now }
+    requires some { pos 0 <ℤ fill.now.volume }
+    requires rising { Rising position_ticket positions.now }
+    requires held { IfSome (met hedging positions.now fill.now) IsHeld }
+    ensures { IfOk result (IsActOf specs.now fill.now (met hedging positions.now fill.now)) }
+{
+    let on = met(hedging, positions, fill);
+    let deal = deal_on(alloc, specs, fill, on)?;
+    let opening = copy_deal(alloc, &deal)?;
+    let stops = stops_after(fill, &deal, on);
+    Ok(Act {
+        deal,
+        opening,
+        stops,
+    })
+}
+
+/// The volume and the price of a fill are doubles.
+fn number_ranges(fill: &Fill)
+    ensures volume { FitsSigned w64 fill.now.volume }
+    ensures price { FitsSigned w64 fill.now.price }
+{
+    let _volume = fill.volume.units();
+    let _price = fill.price.units();
 }
 
 /// What a fill makes of open positions, under hedging or under netting. A refused call changes nothing.
@@ -167,35 +223,36 @@ pub(crate) fn fill_on(
     if let Some(fault) = refusal(hedging, positions, fill) {
         return Err(fault);
     }
-    let on = met(hedging, positions, fill);
-    let Ok(deal) = deal_on(alloc, specs, fill, on) else {
+    let Ok(act) = act_of(hedging, alloc, specs, positions, fill) else {
         return Err(FillFault::OutOfMemory);
     };
-    let Ok(opening) = copy_deal(alloc, &deal) else {
-        return Err(FillFault::OutOfMemory);
-    };
-    let stops = stops_after(fill, &deal, on);
+    number_ranges(fill);
     if positions.reserve(1).is_err() {
         return Err(FillFault::OutOfMemory);
     }
-    if push_act(out, deal, stops).is_err() {
+    let Act {
+        deal,
+        opening,
+        stops,
+    } = act;
+    if push_act(out, deal, &stops).is_err() {
         return Err(FillFault::OutOfMemory);
     }
     apply_deal(positions, opening);
-    apply_change(positions, stops);
+    apply_change(positions, &stops);
     Ok(())
 }
 
 /// What a change of stops makes of open positions.
-fn apply_change(positions: &mut Vec<Position>, stops: Option<Change>)
+fn apply_change(positions: &mut Vec<Position>, stops: &Option<Change>)
     requires rising { Rising position_ticket positions.old.items }
-    ensures items { positions.new.items ≡ fold positions_after positions.old.items (change_events stops) }
+    ensures items { positions.new.items ≡ fold positions_after positions.old.items (change_events stops.now) }
     ensures rising { Rising position_ticket positions.new.items }
 {
-    let Some(Change { ticket, sl, tp }) = stops else {
+    let Some(change) = stops else {
         return;
     };
-    let _open = apply_stops(positions, ticket, sl, tp);
+    let _open = apply_stops(positions, change.ticket, change.sl, change.tp);
 }
 
 /// Sets the stops of a position; `false` exactly where it is not open, and then nothing changes.

@@ -1,6 +1,6 @@
 //! Fills, and the deals that they make.
 
-ghost use Rattle.std.specs.Prelude.{◌≡◌, ◌<◌, ◌^◌, length, slice_get, Some, IfSome, IfOk, All, pos, ◌≤ℤ◌, ◌<ℤ◌};
+ghost use Rattle.std.specs.Prelude.{◌≡◌, ◌<◌, ◌≤◌, ◌^◌, length, slice_get, Some, IfSome, IfOk, All, pos, ◌≤ℤ◌, ◌<ℤ◌};
 ghost use Rattle.std.specs.Option.{option_copied};
 ghost use Rattle.market_types.specs.Ranges.{IsSpec};
 ghost use Rattle.account.specs.Ranges.{IsHeld};
@@ -231,7 +231,7 @@ pub fn deal_on(
     requires specs { All IsSpec specs.now }
     requires some { pos 0 <ℤ fill.now.volume }
     requires held { IfSome (option_copied on) IsHeld }
-    ensures { IfOk result (λ deal. deal ≡ deal_on specs.now fill.now (option_copied on)) }
+    ensures { IfOk result (λ deal. deal ≡ deal_on specs.now fill.now (option_copied on.entry)) }
 {
     let comment = copy_text(alloc, &fill.comment)?;
     match on {
@@ -262,7 +262,7 @@ fn levels_at(sl: Fix8, tp: Fix8) -> Levels
 
 /// The stops of the position that a fill leaves.
 pub fn levels_of(fill: &Fill, on: Option<&Position>) -> Levels
-    ensures { result ≡ levels_of fill.now (option_copied on) }
+    ensures { result ≡ levels_of fill.now (option_copied on.entry) }
 {
     match on {
         None => levels_at(fill.sl, fill.tp),
