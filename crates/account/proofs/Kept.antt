@@ -128,12 +128,12 @@ fits spec b d h few w =
     let f : take 1 (deals (b.events.items ++ Added d ∷ [])) ≡ deposit_deal spec ∷ [] = ap (λ (xs : List Deal). take 1 xs) ds ∙ still_first (deals b.events.items) (deposit_deal spec) d h.first in
     let n : length (trading_deals b.events.items) < 2 ^ 31 = let k : length (trading_deals b.events.items) ≤ length (deals b.events.items) = behind_few (deals b.events.items) in omega (arith, k, few) in
     subst (λ (x : Totals). FitsAfter x d) (sym h.summed)
-      (fits_after spec (trading_deals b.events.items) d n
-        (subst (λ (xs : List Deal). FitsSigned w128 (balance_path spec.deposit xs).now) t (subst (λ z. FitsSigned w128 z) (sym (balance_is spec (b.events.items ++ Added d ∷ []) f)) w.balance))
-        (subst (λ (xs : List Deal). FitsSigned w128 (balance_path spec.deposit xs).fall) t w.balance_dd)
-        (subst (λ (xs : List Deal). FitsSigned w128 (total net xs)) t w.profit)
-        (subst (λ (xs : List Deal). FitsSigned w128 (total gain xs)) t w.gross_profit)
-        (subst (λ (xs : List Deal). FitsSigned w128 (total loss xs)) t w.gross_loss))
+    (fits_after spec (trading_deals b.events.items) d n
+    (subst (λ (xs : List Deal). FitsSigned w128 (balance_path spec.deposit xs).now) t (subst (λ z. FitsSigned w128 z) (sym (balance_is spec (b.events.items ++ Added d ∷ []) f)) w.balance))
+    (subst (λ (xs : List Deal). FitsSigned w128 (balance_path spec.deposit xs).fall) t w.balance_dd)
+    (subst (λ (xs : List Deal). FitsSigned w128 (total net xs)) t w.profit)
+    (subst (λ (xs : List Deal). FitsSigned w128 (total gain xs)) t w.gross_profit)
+    (subst (λ (xs : List Deal). FitsSigned w128 (total loss xs)) t w.gross_loss))
 
 pub not_full : (es : List Event) (e : Event) → deal_of e ≡ None → is_full es e ≡ false
 unfolding is_full

@@ -22,8 +22,8 @@ count-more : {X : Type 0} (p : X → Bool) (xs : List X) (x : X) → length (fil
 count-more {X} p xs x =
     ap (λ (ys : List X). length ys) (filter-append p xs (x ∷ []))
     ∙ (elim (p x) as (λ b. length (filter p xs ++ cond b (x ∷ []) []) ≡ counted b (length (filter p xs))) [
-      true ↦ length-more (filter p xs) x
-    | false ↦ ap (λ (ys : List X). length ys) (append-nil (filter p xs))
+      | true ↦ length-more (filter p xs) x
+      | false ↦ ap (λ (ys : List X). length ys) (append-nil (filter p xs))
     ])
 
 path-more : (deposit : ℤ) (ds : List Deal) (d : Deal) → balance_path deposit (ds ++ d ∷ []) ≡ path_after (balance_path deposit ds) d
@@ -31,8 +31,10 @@ path-more deposit ds d = fold-append path_after (begun deposit) ds (d ∷ [])
 
 make : Path → ℤ → ℤ → ℤ → ℤ → ℕ → ℕ → ℕ → ℕ → Totals
 make path deposit profit gains losses n t p l = record {
-  balance = path.now; highest = path.highest;
-  stats = record { initial_deposit = deposit; profit = profit; gross_profit = gains; gross_loss = losses; deals = n; trades = t; profit_trades = p; loss_trades = l; balance_dd = path.fall; equity_dd = pos 0 } }
+  balance = path.now;
+  highest = path.highest;
+  stats = record { initial_deposit = deposit; profit = profit; gross_profit = gains; gross_loss = losses; deals = n; trades = t; profit_trades = p; loss_trades = l; balance_dd = path.fall; equity_dd = pos 0 };
+}
 
 -- the totals of one more deal are the totals after it
 pub totals-more : (deposit : ℤ) (ds : List Deal) (d : Deal) → totals_of deposit (ds ++ d ∷ []) ≡ totals_after (totals_of deposit ds) d

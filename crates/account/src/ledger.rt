@@ -88,7 +88,12 @@ fn is_full(books: &Books, spec: &AccountSpec, deal: &Deal) -> bool
 }
 
 /// Adds a deal to what is kept. A refused call changes no list.
-fn add_deal(books: &mut Books, spec: &AccountSpec, alloc: Global, deal: Deal) -> Result<(), LedgerFault>
+fn add_deal(
+    books: &mut Books,
+    spec: &AccountSpec,
+    alloc: Global,
+    deal: Deal,
+) -> Result<(), LedgerFault>
     requires books { IsBooks spec.now books.old }
     requires types { KeepsTypes (open_positions books.old.events.items) (event.Added deal) }
     requires within { IsWithin spec.now (books.old.events.items ++ event.Added deal ∷ []) }
@@ -159,7 +164,12 @@ fn apply_other(positions: &mut Vec<Position>, event: &Event)
 }
 
 /// Adds an event to what is kept. A refused call changes no list.
-fn add(books: &mut Books, spec: &AccountSpec, alloc: Global, event: Event) -> Result<(), LedgerFault>
+fn add(
+    books: &mut Books,
+    spec: &AccountSpec,
+    alloc: Global,
+    event: Event,
+) -> Result<(), LedgerFault>
     requires books { IsBooks spec.now books.old }
     requires types { KeepsTypes (open_positions books.old.events.items) event }
     requires within { IsWithin spec.now (books.old.events.items ++ event ∷ []) }

@@ -37,7 +37,7 @@ fill_types hedging specs f ps d o s v g fresh m e =
     let named : MayDeal (deal_on specs f (met hedging ps f)) (item position_ticket (deal_on specs f (met hedging ps f)).position ps) = subst (λ (x : Option Position). MayDeal (deal_on specs f (met hedging ps f)) x) (sym (met_item hedging specs ps f o.rising fresh)) may in
     let trade : is_balance (deal_on specs f (met hedging ps f)).kind ≡ false = ap is_balance (deal_kind specs f (met hedging ps f)) ∙ not_balance f.buy in
     subst (λ (x : Deal). KeepsTypes ps (Added x)) (sym e)
-      (subst (λ (b : Bool). MatchBool b ⊤ (MayDeal (deal_on specs f (met hedging ps f)) (item position_ticket (deal_on specs f (met hedging ps f)).position ps))) (sym trade) named)
+    (subst (λ (b : Bool). MatchBool b ⊤ (MayDeal (deal_on specs f (met hedging ps f)) (item position_ticket (deal_on specs f (met hedging ps f)).position ps))) (sym trade) named)
 
 pub fill_types_at : (hedging : Bool) (specs : List SymbolSpec) (f : Fill) (ps ps1 ps2 : List Position) (d : Deal) → ps1 ≡ ps → ps2 ≡ ps → IsOpen ps → pos 0 <ℤ f.volume → FitsSigned w64 f.volume → FitsSigned w64 f.price → (met hedging ps f ≡ None → item position_ticket f.order ps ≡ None) → MayAdd f (met hedging ps f) → d ≡ deal_on specs f (met hedging ps2 f) → KeepsTypes ps1 (Added d)
 fill_types_at hedging specs f ps ps1 ps2 d e1 e2 o s v g fresh m e =

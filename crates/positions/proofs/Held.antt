@@ -45,8 +45,8 @@ flip a b = grind arith
 weighted : (m n : ℕ) (p a : ℤ) → 0 < m + n → FitsSigned w64 p → FitsSigned w64 a → FitsSigned w64 (rounded (pos m *ℤ p +ℤ pos n *ℤ a) (pos (m + n)))
 weighted m n p a s f g =
     rounds (pos m *ℤ p +ℤ pos n *ℤ a) (m + n) s
-      (omega (arith, ints, high m p f, high n a g, flip (2 ^ 63 - 1) (m + n), both m n (2 ^ 63 - 1)))
-      (omega (arith, ints, low m p f, low n a g, flip (2 ^ 63) (m + n), both m n (2 ^ 63)))
+    (omega (arith, ints, high m p f, high n a g, flip (2 ^ 63 - 1) (m + n), both m n (2 ^ 63 - 1)))
+    (omega (arith, ints, low m p f, low n a g, flip (2 ^ 63) (m + n), both m n (2 ^ 63)))
 
 -- the weighted price of two prices is one
 pub weighted_fits : (v w p a : ℤ) → pos 0 <ℤ v → pos 0 <ℤ w → FitsSigned w64 p → FitsSigned w64 a → FitsSigned w64 (weighted_price v p w a)

@@ -14,8 +14,10 @@ ghost use Rattle.positions.specs.Acts.{IsOpen, IsActOf, change_events, differing
 
 use crate::fill::{deal_on, levels_of};
 use crate::{Fill, FillFault, Levels};
-use account::{Deal, DealReason, Event, EventList, Position};
-use account::{apply_deal, apply_stops, apply_swap, copy_deal, is_closed_by, look_up, same_side};
+use account::{
+    Deal, DealReason, Event, EventList, Position, apply_deal, apply_stops, apply_swap, copy_deal,
+    is_closed_by, look_up, same_side,
+};
 use fx8::{Fix8, Money, OutOfMemory, Tickets};
 use market_types::{Quote, Specs};
 use std::alloc::Global;
@@ -290,7 +292,11 @@ fn reaches_sl(buy: bool, quote: &Quote, sl: Fix8) -> bool
     if sl == Fix8::of_units(0) {
         return false;
     }
-    if buy { quote.bid <= sl } else { sl <= quote.ask }
+    if buy {
+        quote.bid <= sl
+    } else {
+        sl <= quote.ask
+    }
 }
 
 /// Whether the quote closes a position by its take profit.
@@ -300,7 +306,11 @@ fn reaches_tp(buy: bool, quote: &Quote, tp: Fix8) -> bool
     if tp == Fix8::of_units(0) {
         return false;
     }
-    if buy { tp <= quote.bid } else { quote.ask <= tp }
+    if buy {
+        tp <= quote.bid
+    } else {
+        quote.ask <= tp
+    }
 }
 
 /// Why a quote closes a position, where it does: the stop loss comes first.

@@ -7,8 +7,10 @@ ghost use Rattle.account.specs.Ranges.{IsHeld};
 ghost use Rattle.account.specs.StopOut.{contract_of};
 ghost use Rattle.positions.specs.Fills.{rate_of, kind_of, plain, closing, swap_paid, entry_of, closed, deal_on, given_or, levels_at, levels_of};
 
-use account::{Deal, DealEntry, DealKind, DealReason, Position};
-use account::{commission, copy_text, portion, profit, same_side};
+use account::{
+    Deal, DealEntry, DealKind, DealReason, Position, commission, copy_text, portion, profit,
+    same_side,
+};
 use fx8::{Fix8, Money, OutOfMemory, Text};
 use market_types::{Specs, SymbolSpec};
 use std::alloc::Global;
@@ -217,7 +219,11 @@ fn closed(specs: &Specs, fill: &Fill, position: &Position, comment: Text) -> Dea
     let profit = profit(position.buy, position.price, fill.price, contract, volume);
     let swap = swap_paid(fill, position);
     let entry = entry_of(fill, position);
-    paying(plain(specs, fill, position.ticket, entry, comment), profit, swap)
+    paying(
+        plain(specs, fill, position.ticket, entry, comment),
+        profit,
+        swap,
+    )
 }
 
 /// The deal of a fill that meets a position, or none.
@@ -251,7 +257,11 @@ pub fn deal_on(
 fn given_or(given: Fix8, before: Fix8) -> Fix8
     ensures { result ≡ given_or given before }
 {
-    if given == Fix8::of_units(0) { before } else { given }
+    if given == Fix8::of_units(0) {
+        before
+    } else {
+        given
+    }
 }
 
 fn levels_at(sl: Fix8, tp: Fix8) -> Levels
@@ -268,7 +278,10 @@ pub fn levels_of(fill: &Fill, on: Option<&Position>) -> Levels
         None => levels_at(fill.sl, fill.tp),
         Some(position) => {
             if same_side(position.buy, fill.buy) {
-                levels_at(given_or(fill.sl, position.sl), given_or(fill.tp, position.tp))
+                levels_at(
+                    given_or(fill.sl, position.sl),
+                    given_or(fill.tp, position.tp),
+                )
             } else if position.volume < fill.volume {
                 levels_at(fill.sl, fill.tp)
             } else {

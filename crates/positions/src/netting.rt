@@ -56,7 +56,14 @@ impl PositionRule for Netting {
     ghost hedging = { λ rule. false };
 
     fn fill(&mut self, fill: &Fill, out: &mut EventList) -> Result<(), FillFault> {
-        fill_on(false, self.alloc, &self.specs, &mut self.positions, fill, out)
+        fill_on(
+            false,
+            self.alloc,
+            &self.specs,
+            &mut self.positions,
+            fill,
+            out,
+        )
     }
 
     fn set_stops(&mut self, ticket: u64, sl: Fix8, tp: Fix8) -> bool {
