@@ -13,8 +13,6 @@ mod order;
 mod position;
 mod prices;
 mod stats;
-#[cfg(test)]
-mod tests;
 mod totals;
 
 pub use account_spec::AccountSpec;
