@@ -186,7 +186,8 @@ fn add(
 
 /// What a ledger keeps of the deposit alone.
 fn books_of_deposit(alloc: Global, spec: &AccountSpec) -> Result<Books, OutOfMemory>
-    ensures { IfOk result (λ books. IsBooks spec.now books × (books.events.items ≡ event.Added (deposit_deal spec.now) ∷ [])) }
+    ensures { IfOk result (λ books. IsBooks spec.now books
+        × (books.events.items ≡ event.Added (deposit_deal spec.now) ∷ [])) }
 {
     let mut events = Vec::new(alloc);
     let mut deals = ItemList::new(alloc);
@@ -225,7 +226,8 @@ impl Ledger {
     /// The ledger of an account to which nothing happened but the deposit, deal 1.
     pub fn start(alloc: Global, spec: AccountSpec) -> Result<Ledger, OutOfMemory>
         requires { IsAccount spec }
-        ensures { IfOk result (λ ledger. ledger ≡ record { spec = spec; events = event.Added (deposit_deal spec) ∷ [] }) }
+        ensures { IfOk result (λ ledger. ledger
+            ≡ record { spec = spec; events = event.Added (deposit_deal spec) ∷ [] }) }
     {
         let books = books_of_deposit(alloc, &spec)?;
         Ok(Ledger { alloc, spec, books })

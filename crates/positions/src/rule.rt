@@ -29,14 +29,16 @@ pub trait PositionRule {
     fn fill(&mut self, fill: &Fill, out: &mut EventList) -> Result<(), FillFault>
         requires fill { IsFill (hedging self.old) (specs self.old) (positions self.old) fill.now }
         requires volume { MayAdd fill.now (met (hedging self.old) (positions self.old) fill.now) }
-        ensures filled { Leaves (filled (hedging self.old) (specs self.old) (positions self.old) fill.now) result
+        ensures filled { Leaves
+            (filled (hedging self.old) (specs self.old) (positions self.old) fill.now) result
             (positions self.old) (positions self.new) out.old out.new }
         ensures same_specs { specs self.new ≡ specs self.old }
         ensures same_kind { hedging self.new ≡ hedging self.old };
 
     /// Sets the stops of a position; `false` exactly where it is not open, and then nothing changes.
     fn set_stops(&mut self, ticket: u64, sl: Fix8, tp: Fix8) -> bool
-        ensures positions { positions self.new ≡ positions_after (positions self.old) (event.Stops ticket sl tp) }
+        ensures positions { positions self.new
+            ≡ positions_after (positions self.old) (event.Stops ticket sl tp) }
         ensures open { result ≡ is_some (item position_ticket ticket (positions self.old)) }
         ensures same_specs { specs self.new ≡ specs self.old }
         ensures same_kind { hedging self.new ≡ hedging self.old };
@@ -45,7 +47,8 @@ pub trait PositionRule {
     /// changes.
     fn add_swap(&mut self, ticket: u64, amount: Money) -> bool
         requires types { KeepsTypes (positions self.old) (event.Swap ticket amount) }
-        ensures positions { positions self.new ≡ positions_after (positions self.old) (event.Swap ticket amount) }
+        ensures positions { positions self.new
+            ≡ positions_after (positions self.old) (event.Swap ticket amount) }
         ensures open { result ≡ is_some (item position_ticket ticket (positions self.old)) }
         ensures same_specs { specs self.new ≡ specs self.old }
         ensures same_kind { hedging self.new ≡ hedging self.old };
