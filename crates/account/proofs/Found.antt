@@ -1,12 +1,11 @@
 -- Where the item of a ticket stands in a list whose tickets rise, and what a change makes there.
-use Rattle.std.proofs.Common.{◌≡◌, ℕ, ◌<◌, ◌≤◌, ◌+◌, suc, zero, ◌++◌, Bool, true, false, cond, eqb, ltb, List, [], ◌∷◌, length, take, drop, set, slice_get, slice_set, slice_index_or, insert, remove, Option, Some, None, refl, ap, sym, subst, ◌∙◌, arith, rules, get_or, filter, option_to_list}
+use Rattle.std.proofs.Common.{◌≡◌, ℕ, ◌≤◌, suc, zero, ◌++◌, true, false, cond, eqb, ltb, List, [], ◌∷◌, length, set, slice_get, slice_index_or, insert, remove, Option, Some, None, refl, ap, sym, subst, ◌∙◌, arith, rules, option_to_list}
 use Rattle.std.specs.Option.{option_map}
 use Rattle.std.specs.List.{All}
 use Rattle.std.specs.Prelude.{IfSome}
 use Rattle.std.proofs.lemmas.List.Elements.{All-append, All-filter, All-nil, All-cons}
-use Rattle.std.proofs.lemmas.Option.{get_or_from_slice_get, slice_get_within, slice_get_past}
-use Rattle.std.proofs.lemmas.List.{take-append-drop, length-set}
-use Rattle.std.proofs.lemmas.List.Edits.{length-remove, length-insert}
+use Rattle.std.proofs.lemmas.Option.{get_or_from_slice_get, slice_get_past}
+use Rattle.std.proofs.lemmas.List.{take-append-drop}
 use Rattle.account.specs.Keyed.{item, put, Rising, lower, found, below, above, KeyIs}
 use Rattle.account.proofs.Places.{item-hit, item-miss, item-end, item-there, item-not-there, put-new, put-gone, put-same, rising-put, rising-gone, numbers, put-none, below-is, above-miss}
 

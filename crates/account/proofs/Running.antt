@@ -1,5 +1,5 @@
 -- The totals after one more deal.
-use Rattle.std.proofs.Common.{◌≡◌, ◌∙◌, ℕ, suc, zero, ◌+◌, ◌<◌, ◌≤◌, ◌^◌, ◌++◌, append-nil, Bool, true, false, cond, List, [], ◌∷◌, length, take, drop, filter, fold, Option, Some, None, ℤ, pos, negsuc, ◌+ℤ◌, ◌-ℤ◌, ◌≤ℤ◌, ◌<ℤ◌, int_lt, FitsSigned, refl, ap, sym, subst, arith, rules}
+use Rattle.std.proofs.Common.{◌≡◌, ◌∙◌, ℕ, ◌+◌, ◌++◌, append-nil, Bool, true, false, cond, List, [], ◌∷◌, length, filter, fold, ℤ, pos, ◌+ℤ◌, ◌-ℤ◌, ◌≤ℤ◌, FitsSigned, refl, ap, arith}
 use Rattle.std.specs.Int.{w128}
 use Rattle.std.proofs.lemmas.Int.{ints}
 use Rattle.std.proofs.lemmas.List.Sums.{fold-append}
@@ -7,8 +7,8 @@ use Rattle.std.proofs.lemmas.List.Elements.{filter-append}
 use Rattle.account.specs.declared.deal.Deal.{Deal}
 use Rattle.account.specs.declared.totals.Totals.{Totals}
 use Rattle.account.specs.Deals.{total, net}
-use Rattle.account.specs.Statistics.{gain, loss, is_trade, is_profit_trade, is_loss_trade, greater, Path, begun, moved, path_after, balance_path, statistics}
-use Rattle.account.specs.Totals.{totals_of, totals_after, counted, balance_after, highest_after, fall_after, FitsAfter}
+use Rattle.account.specs.Statistics.{gain, loss, is_trade, is_profit_trade, is_loss_trade, greater, Path, begun, path_after, balance_path}
+use Rattle.account.specs.Totals.{totals_of, totals_after, counted}
 use Rattle.account.proofs.Conserved.{total-append}
 
 total-more : {X : Type 0} (f : X → ℤ) (xs : List X) (x : X) → total f (xs ++ x ∷ []) ≡ total f xs +ℤ f x

@@ -1,17 +1,16 @@
 -- What events make of open positions in a plain list.
-use Rattle.std.proofs.Common.{◌≡◌, ℕ, Bool, true, false, cond, List, length, set, slice_get, remove, insert, Option, Some, None, refl, ap, sym, subst, ◌∙◌, rules, All, is_none}
-use Rattle.std.specs.Prelude.{IfSome, MatchBool}
-use Rattle.std.specs.Option.{option_map}
+use Rattle.std.proofs.Common.{◌≡◌, ℕ, Bool, true, false, cond, List, set, slice_get, remove, Option, Some, None, refl, ap, sym, subst, ◌∙◌, rules, is_none}
+use Rattle.std.specs.Prelude.{IfSome}
 use Rattle.account.specs.declared.deal.Deal.{Deal}
 use Rattle.account.specs.declared.position.Position.{Position}
 use Rattle.account.specs.declared.event.Event.{Event}
 use Rattle.account.specs.declared.event.Event.TheVariants.{Placed, Modified, Removed, Triggered, Added, Stops, Swap}
-use Rattle.account.specs.Keyed.{item, put, Rising, found, KeyIs}
+use Rattle.account.specs.Keyed.{item, put, Rising, found}
 use Rattle.account.specs.Positions.{positions_after, position_ticket, opened, dealt, after_deal, is_balance, with_stops, with_swap}
-use Rattle.account.specs.Ranges.{MayDeal, MayChange, IsHeld}
+use Rattle.account.specs.Ranges.{MayDeal, MayChange}
 use Rattle.account.proofs.Keys.{item_key}
 use Rattle.account.proofs.Conserved.{after-deal-key, quiet-key}
-use Rattle.account.proofs.Found.{stands, Stands, replaced, gone, not_found, rising_put}
+use Rattle.account.proofs.Found.{stands, Stands, replaced, gone, rising_put}
 
 -- the position at the place is the one of the deal
 pub own : (ps : List Position) (t i : ℕ) (p : Position) → Rising position_ticket ps → Some i ≡ found position_ticket t ps → slice_get ps i ≡ Some p → item position_ticket t ps ≡ Some p

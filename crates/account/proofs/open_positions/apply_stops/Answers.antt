@@ -1,4 +1,4 @@
-use Rattle.std.proofs.Common.{rules, sym, subst, ◌∙◌, ◌≡◌, List, slice_get, Some}
+use Rattle.std.proofs.Common.{rules, sym, subst, ◌∙◌, List}
 use Rattle.account.specs.Keyed.{Rising}
 use Rattle.account.specs.Positions.{position_ticket, with_stops}
 use Rattle.account.specs.declared.position.Position.{Position}

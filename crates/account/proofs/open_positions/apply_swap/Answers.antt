@@ -1,4 +1,4 @@
-use Rattle.std.proofs.Common.{rules, sym, subst, ◌∙◌, ◌≡◌, List, slice_get, Some, FitsSigned, ◌+ℤ◌}
+use Rattle.std.proofs.Common.{rules, sym, subst, ◌∙◌, List, FitsSigned, ◌+ℤ◌}
 use Rattle.std.specs.Int.{w128}
 use Rattle.account.specs.Keyed.{Rising}
 use Rattle.account.specs.Positions.{position_ticket, with_swap}
