@@ -1,12 +1,11 @@
 -- Where the item of a ticket stands in a list whose tickets rise, and what a change makes there.
-use Rattle.std.proofs.Common.{◌≡◌, ℕ, ◌<◌, ◌≤◌, ◌+◌, suc, zero, ◌++◌, Bool, true, false, cond, eqb, ltb, List, [], ◌∷◌, length, take, drop, set, slice_get, slice_set, slice_index_or, insert, remove, Option, Some, None, refl, ap, sym, subst, ◌∙◌, arith, rules, get_or, filter, option_to_list}
+use Rattle.std.proofs.Common.{◌≡◌, ℕ, ◌≤◌, suc, zero, ◌++◌, true, false, cond, eqb, ltb, List, [], ◌∷◌, length, set, slice_get, slice_index_or, insert, remove, Option, Some, None, refl, ap, sym, subst, ◌∙◌, arith, rules, option_to_list}
 use Rattle.std.specs.Option.{option_map}
 use Rattle.std.specs.List.{All}
 use Rattle.std.specs.Prelude.{IfSome}
 use Rattle.std.proofs.lemmas.List.Elements.{All-append, All-filter, All-nil, All-cons}
-use Rattle.std.proofs.lemmas.Option.{get_or_from_slice_get, slice_get_within, slice_get_past}
-use Rattle.std.proofs.lemmas.List.{take-append-drop, length-set}
-use Rattle.std.proofs.lemmas.List.Edits.{length-remove, length-insert}
+use Rattle.std.proofs.lemmas.Option.{get_or_from_slice_get, slice_get_past}
+use Rattle.std.proofs.lemmas.List.{take-append-drop}
 use Rattle.account.specs.Keyed.{item, put, Rising, lower, found, below, above, KeyIs}
 use Rattle.account.proofs.Places.{item-hit, item-miss, item-end, item-there, item-not-there, put-new, put-gone, put-same, rising-put, rising-gone, numbers, put-none, below-is, above-miss}
 
@@ -30,24 +29,24 @@ pub record Stands {X : Type 0} (key : X → ℕ) (t : ℕ) (xs : List X) (i : �
 pub stands : {X : Type 0} (key : X → ℕ) (t : ℕ) (xs : List X) (i : ℕ) → Rising key xs → Some i ≡ found key t xs → Stands key t xs i
 stands {X} key t xs i r h =
     (elim (item key t xs) as (λ o. item key t xs ≡ o → Some i ≡ option_map (λ x. lower key t xs) o → Stands key t xs i) [
-      None ↦ λ e g. absurd (cc)
-    | Some x ↦ λ e g. let p : lower key t xs ≡ i = grind rules in
+      | None ↦ λ e g. absurd (cc)
+      | Some x ↦ λ e g. let p : lower key t xs ≡ i = grind rules in
           record { one = x; is = e; there = subst (λ (k : ℕ). slice_get xs k ≡ Some x) p (item-there key t xs x e r).0; key_is = (item-there key t xs x e r).1; place = p }
     ]) refl h
 
 pub not_found : {X : Type 0} (key : X → ℕ) (t : ℕ) (xs : List X) → None ≡ found key t xs → item key t xs ≡ None
 not_found {X} key t xs h =
     (elim (item key t xs) as (λ o. None ≡ option_map (λ x. lower key t xs) o → o ≡ None) [
-      None ↦ λ g. refl
-    | Some x ↦ λ g. absurd (cc)
+      | None ↦ λ g. refl
+      | Some x ↦ λ g. absurd (cc)
     ]) h
 
 lower-le : {X : Type 0} (key : X → ℕ) (t : ℕ) (xs : List X) → lower key t xs ≤ length xs
 lower-le key t [] = omega arith
 lower-le {X} key t (x ∷ xs) = let h : lower key t xs ≤ length xs = lower-le key t xs in elim (ltb (key x) t) as (λ b. cond b (suc (lower key t xs)) 0 ≤ suc (length xs)) [
-      true ↦ omega arith
-    | false ↦ omega arith
-    ]
+  | true ↦ omega arith
+  | false ↦ omega arith
+]
 
 pub gone : {X : Type 0} (key : X → ℕ) (t : ℕ) (xs : List X) (i : ℕ) → Rising key xs → Some i ≡ found key t xs → put key t None xs ≡ remove xs i
 gone key t xs i r h = let s : Stands key t xs i = stands key t xs i r h in
@@ -66,7 +65,6 @@ new_one key y xs r h = put-new ltb numbers key (key y) y xs r (item-not-there ke
 
 pub none_gone : {X : Type 0} (key : X → ℕ) (t : ℕ) (xs : List X) → Rising key xs → None ≡ found key t xs → xs ≡ put key t None xs
 none_gone key t xs r h = rw (put-none ltb key t xs) (rw (below-is ltb numbers key t xs r) (rw (above-miss ltb numbers key t xs r (item-not-there key t xs (not_found key t xs h))) (sym (take-append-drop (lower key t xs) xs))))
-
 
 -- a change keeps the order of the tickets
 pub rising_put : {X : Type 0} (key : X → ℕ) (t : ℕ) (new : Option X) (xs : List X) → KeyIs key t new → Rising key xs → Rising key (put key t new xs)

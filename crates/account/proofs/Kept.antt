@@ -1,5 +1,5 @@
 -- What a ledger keeps goes on being that of its events.
-use Rattle.std.proofs.Common.{◌≡◌, ◌∙◌, ℕ, suc, zero, ◌+◌, ◌<◌, ◌≤◌, ◌^◌, ◌++◌, append-nil, Bool, true, false, cond, List, [], ◌∷◌, length, take, drop, filter, fold, Option, Some, None, ℤ, pos, ◌+ℤ◌, ◌-ℤ◌, FitsSigned, refl, ap, sym, subst, arith, rules}
+use Rattle.std.proofs.Common.{◌≡◌, ◌∙◌, suc, ◌+◌, ◌<◌, ◌≤◌, ◌^◌, ◌++◌, append-nil, Bool, true, false, cond, List, [], ◌∷◌, length, take, drop, filter, fold, Option, None, ◌+ℤ◌, FitsSigned, refl, ap, sym, subst, arith, rules}
 use Rattle.std.specs.List.{cons_option}
 use Rattle.std.specs.Int.{w128}
 use Rattle.std.proofs.lemmas.Int.{ints}
@@ -15,7 +15,7 @@ use Rattle.account.specs.declared.ledger.Books.{Books}
 use Rattle.account.specs.Keyed.{Rising}
 use Rattle.account.specs.Deals.{total, net, deal_of, deals, trading_deals, balance, profit_of, swap_of, commission_of}
 use Rattle.account.specs.Positions.{positions_after, open_positions, position_ticket}
-use Rattle.account.specs.Statistics.{gain, loss, is_trade, is_profit_trade, is_loss_trade, balance_path, greater}
+use Rattle.account.specs.Statistics.{gain, loss, is_trade, is_profit_trade, is_loss_trade, balance_path}
 use Rattle.account.specs.Totals.{totals_of, totals_after, FitsAfter}
 use Rattle.account.specs.Ranges.{IsWithin}
 use Rattle.account.specs.Journal.{deposit_deal}
@@ -23,7 +23,6 @@ use Rattle.account.specs.Books.{IsBooks, is_full}
 use Rattle.account.proofs.Running.{totals-more, balance-now, net-fits, fall-fits, length-more}
 use Rattle.account.proofs.Steps.{rising_after}
 use Rattle.account.proofs.Conserved.{sums}
-use Rattle.std.specs.Prelude.{nat_le, is_some, ◌&&◌}
 
 -- tickets rise in what is read off events
 rising_over : (ps : List Position) (es : List Event) → Rising position_ticket ps → Rising position_ticket (fold positions_after ps es)
@@ -128,12 +127,12 @@ fits spec b d h few w =
     let f : take 1 (deals (b.events.items ++ Added d ∷ [])) ≡ deposit_deal spec ∷ [] = ap (λ (xs : List Deal). take 1 xs) ds ∙ still_first (deals b.events.items) (deposit_deal spec) d h.first in
     let n : length (trading_deals b.events.items) < 2 ^ 31 = let k : length (trading_deals b.events.items) ≤ length (deals b.events.items) = behind_few (deals b.events.items) in omega (arith, k, few) in
     subst (λ (x : Totals). FitsAfter x d) (sym h.summed)
-      (fits_after spec (trading_deals b.events.items) d n
-        (subst (λ (xs : List Deal). FitsSigned w128 (balance_path spec.deposit xs).now) t (subst (λ z. FitsSigned w128 z) (sym (balance_is spec (b.events.items ++ Added d ∷ []) f)) w.balance))
-        (subst (λ (xs : List Deal). FitsSigned w128 (balance_path spec.deposit xs).fall) t w.balance_dd)
-        (subst (λ (xs : List Deal). FitsSigned w128 (total net xs)) t w.profit)
-        (subst (λ (xs : List Deal). FitsSigned w128 (total gain xs)) t w.gross_profit)
-        (subst (λ (xs : List Deal). FitsSigned w128 (total loss xs)) t w.gross_loss))
+    (fits_after spec (trading_deals b.events.items) d n
+    (subst (λ (xs : List Deal). FitsSigned w128 (balance_path spec.deposit xs).now) t (subst (λ z. FitsSigned w128 z) (sym (balance_is spec (b.events.items ++ Added d ∷ []) f)) w.balance))
+    (subst (λ (xs : List Deal). FitsSigned w128 (balance_path spec.deposit xs).fall) t w.balance_dd)
+    (subst (λ (xs : List Deal). FitsSigned w128 (total net xs)) t w.profit)
+    (subst (λ (xs : List Deal). FitsSigned w128 (total gain xs)) t w.gross_profit)
+    (subst (λ (xs : List Deal). FitsSigned w128 (total loss xs)) t w.gross_loss))
 
 pub not_full : (es : List Event) (e : Event) → deal_of e ≡ None → is_full es e ≡ false
 unfolding is_full

@@ -1,5 +1,5 @@
 -- The totals after one more deal.
-use Rattle.std.proofs.Common.{◌≡◌, ◌∙◌, ℕ, suc, zero, ◌+◌, ◌<◌, ◌≤◌, ◌^◌, ◌++◌, append-nil, Bool, true, false, cond, List, [], ◌∷◌, length, take, drop, filter, fold, Option, Some, None, ℤ, pos, negsuc, ◌+ℤ◌, ◌-ℤ◌, ◌≤ℤ◌, ◌<ℤ◌, int_lt, FitsSigned, refl, ap, sym, subst, arith, rules}
+use Rattle.std.proofs.Common.{◌≡◌, ◌∙◌, ℕ, ◌+◌, ◌++◌, append-nil, Bool, true, false, cond, List, [], ◌∷◌, length, filter, fold, ℤ, pos, ◌+ℤ◌, ◌-ℤ◌, ◌≤ℤ◌, FitsSigned, refl, ap, arith}
 use Rattle.std.specs.Int.{w128}
 use Rattle.std.proofs.lemmas.Int.{ints}
 use Rattle.std.proofs.lemmas.List.Sums.{fold-append}
@@ -7,8 +7,8 @@ use Rattle.std.proofs.lemmas.List.Elements.{filter-append}
 use Rattle.account.specs.declared.deal.Deal.{Deal}
 use Rattle.account.specs.declared.totals.Totals.{Totals}
 use Rattle.account.specs.Deals.{total, net}
-use Rattle.account.specs.Statistics.{gain, loss, is_trade, is_profit_trade, is_loss_trade, greater, Path, begun, moved, path_after, balance_path, statistics}
-use Rattle.account.specs.Totals.{totals_of, totals_after, counted, balance_after, highest_after, fall_after, FitsAfter}
+use Rattle.account.specs.Statistics.{gain, loss, is_trade, is_profit_trade, is_loss_trade, greater, Path, begun, path_after, balance_path}
+use Rattle.account.specs.Totals.{totals_of, totals_after, counted}
 use Rattle.account.proofs.Conserved.{total-append}
 
 total-more : {X : Type 0} (f : X → ℤ) (xs : List X) (x : X) → total f (xs ++ x ∷ []) ≡ total f xs +ℤ f x
@@ -22,8 +22,8 @@ count-more : {X : Type 0} (p : X → Bool) (xs : List X) (x : X) → length (fil
 count-more {X} p xs x =
     ap (λ (ys : List X). length ys) (filter-append p xs (x ∷ []))
     ∙ (elim (p x) as (λ b. length (filter p xs ++ cond b (x ∷ []) []) ≡ counted b (length (filter p xs))) [
-      true ↦ length-more (filter p xs) x
-    | false ↦ ap (λ (ys : List X). length ys) (append-nil (filter p xs))
+      | true ↦ length-more (filter p xs) x
+      | false ↦ ap (λ (ys : List X). length ys) (append-nil (filter p xs))
     ])
 
 path-more : (deposit : ℤ) (ds : List Deal) (d : Deal) → balance_path deposit (ds ++ d ∷ []) ≡ path_after (balance_path deposit ds) d
@@ -31,8 +31,10 @@ path-more deposit ds d = fold-append path_after (begun deposit) ds (d ∷ [])
 
 make : Path → ℤ → ℤ → ℤ → ℤ → ℕ → ℕ → ℕ → ℕ → Totals
 make path deposit profit gains losses n t p l = record {
-  balance = path.now; highest = path.highest;
-  stats = record { initial_deposit = deposit; profit = profit; gross_profit = gains; gross_loss = losses; deals = n; trades = t; profit_trades = p; loss_trades = l; balance_dd = path.fall; equity_dd = pos 0 } }
+  balance = path.now;
+  highest = path.highest;
+  stats = record { initial_deposit = deposit; profit = profit; gross_profit = gains; gross_loss = losses; deals = n; trades = t; profit_trades = p; loss_trades = l; balance_dd = path.fall; equity_dd = pos 0 };
+}
 
 -- the totals of one more deal are the totals after it
 pub totals-more : (deposit : ℤ) (ds : List Deal) (d : Deal) → totals_of deposit (ds ++ d ∷ []) ≡ totals_after (totals_of deposit ds) d

@@ -1,9 +1,9 @@
 -- A product divided and rounded, without the product.
-use Rattle.std.proofs.Common.{◌≡◌, ◌∙◌, ℕ, suc, zero, ◌+◌, ◌-◌, ◌*◌, ◌/◌, ◌%◌, ◌^◌, ◌<◌, ◌≤◌, Bool, true, false, ℤ, pos, negsuc, neg_ℤ, ◌*ℤ◌, unsigned_abs, refl, ap, sym, subst, arith}
-use Rattle.std.proofs.Math.Nat.{mul-add-div_right, div-lt_iff_lt-mul, mul-div-le}
+use Rattle.std.proofs.Common.{◌≡◌, ◌∙◌, ℕ, suc, zero, ◌+◌, ◌-◌, ◌*◌, ◌/◌, ◌%◌, ◌^◌, ◌<◌, ◌≤◌, true, ℤ, pos, negsuc, neg_ℤ, ◌*ℤ◌, unsigned_abs, refl, ap, sym, arith}
+use Rattle.std.proofs.Math.Nat.{mul-add-div_right, div-lt_iff_lt-mul}
 use Rattle.std.proofs.Math.IntN.{negsuc-*ℤ-pos}
 use Rattle.std.proofs.lemmas.Nat.{mul-le, div-add-mod'}
-use Rattle.fx8.specs.Rounding.{nearest, rounded, signed, is_below_zero, signs_differ}
+use Rattle.fx8.specs.Rounding.{nearest, rounded, signed, is_below_zero}
 
 spread : (m q : ℕ) → suc m * (2 * q) ≡ 2 * (m * q) + 2 * q
 spread m q = grind arith

@@ -1,17 +1,16 @@
 -- What events make of open positions in a plain list.
-use Rattle.std.proofs.Common.{◌≡◌, ℕ, Bool, true, false, cond, List, length, set, slice_get, remove, insert, Option, Some, None, refl, ap, sym, subst, ◌∙◌, rules, All, is_none}
-use Rattle.std.specs.Prelude.{IfSome, MatchBool}
-use Rattle.std.specs.Option.{option_map}
+use Rattle.std.proofs.Common.{◌≡◌, ℕ, Bool, true, false, cond, List, set, slice_get, remove, Option, Some, None, refl, ap, sym, subst, ◌∙◌, rules, is_none}
+use Rattle.std.specs.Prelude.{IfSome}
 use Rattle.account.specs.declared.deal.Deal.{Deal}
 use Rattle.account.specs.declared.position.Position.{Position}
 use Rattle.account.specs.declared.event.Event.{Event}
 use Rattle.account.specs.declared.event.Event.TheVariants.{Placed, Modified, Removed, Triggered, Added, Stops, Swap}
-use Rattle.account.specs.Keyed.{item, put, Rising, found, KeyIs}
+use Rattle.account.specs.Keyed.{item, put, Rising, found}
 use Rattle.account.specs.Positions.{positions_after, position_ticket, opened, dealt, after_deal, is_balance, with_stops, with_swap}
-use Rattle.account.specs.Ranges.{MayDeal, MayChange, IsHeld}
+use Rattle.account.specs.Ranges.{MayDeal, MayChange}
 use Rattle.account.proofs.Keys.{item_key}
 use Rattle.account.proofs.Conserved.{after-deal-key, quiet-key}
-use Rattle.account.proofs.Found.{stands, Stands, replaced, gone, not_found, rising_put}
+use Rattle.account.proofs.Found.{stands, Stands, replaced, gone, rising_put}
 
 -- the position at the place is the one of the deal
 pub own : (ps : List Position) (t i : ℕ) (p : Position) → Rising position_ticket ps → Some i ≡ found position_ticket t ps → slice_get ps i ≡ Some p → item position_ticket t ps ≡ Some p
@@ -53,7 +52,7 @@ some_of (Some q) P h f = f q refl
 pub changes_at : (d : Deal) (ps new : List Position) (i : ℕ) (p : Position) (b : Bool) → Rising position_ticket ps → found position_ticket d.position ps ≡ Some i → slice_get ps i ≡ Some p → b ≡ is_none (dealt d p) → b ≡ false → ((p q : Position) → slice_get ps i ≡ Some p → dealt d p ≡ Some q → new ≡ set ps i q) → new ≡ put position_ticket d.position (after_deal d (item position_ticket d.position ps)) ps
 changes_at d ps new i p b r h g e l f =
     some_of (dealt d p) (new ≡ put position_ticket d.position (after_deal d (item position_ticket d.position ps)) ps) (sym e ∙ l)
-      (λ q k. f p q g k ∙ sym (deal_changes d ps i p q r (sym h) g k))
+    (λ q k. f p q g k ∙ sym (deal_changes d ps i p q r (sym h) g k))
 
 pub rising_dealt : (d : Deal) (ps new : List Position) → Rising position_ticket ps → new ≡ put position_ticket d.position (after_deal d (item position_ticket d.position ps)) ps → Rising position_ticket new
 rising_dealt d ps new r e = subst (λ (qs : List Position). Rising position_ticket qs) (sym e) (rising_put position_ticket d.position _ ps (after-deal-key d _ (item_key position_ticket d.position ps)) r)
@@ -65,8 +64,8 @@ rising_opened d ps new r e = subst (λ (qs : List Position). Rising position_tic
 pub rising_after : (ps : List Position) (e : Event) → Rising position_ticket ps → Rising position_ticket (positions_after ps e)
 rising_after ps (Added d) r =
     elim (is_balance d.kind) as (λ b. Rising position_ticket (cond b ps (put position_ticket d.position (after_deal d (item position_ticket d.position ps)) ps))) [
-      true ↦ r
-    | false ↦ rising_put position_ticket d.position _ ps (after-deal-key d _ (item_key position_ticket d.position ps)) r
+      | true ↦ r
+      | false ↦ rising_put position_ticket d.position _ ps (after-deal-key d _ (item_key position_ticket d.position ps)) r
     ]
 rising_after ps (Stops t sl tp) r = rising_put position_ticket t _ ps (quiet-key (with_stops sl tp) t (item position_ticket t ps) (λ p. refl) (item_key position_ticket t ps)) r
 rising_after ps (Swap t amount) r = rising_put position_ticket t _ ps (quiet-key (with_swap amount) t (item position_ticket t ps) (λ p. refl) (item_key position_ticket t ps)) r

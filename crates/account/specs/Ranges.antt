@@ -1,5 +1,5 @@
 -- The ranges of an account's numbers, and what keeps sums within their types.
-use Rattle.std.specs.Prelude.{◌≡◌, ℕ, ◌≤◌, ◌<◌, false, List, length, All, MatchBool, Option, IfSome, is_none, ⊤, FitsSigned, ℤ, pos, ◌≤ℤ◌, ◌<ℤ◌, ◌+ℤ◌}
+use Rattle.std.specs.Prelude.{◌≡◌, ℕ, ◌≤◌, ◌<◌, false, List, length, All, MatchBool, Option, IfSome, is_none, ⊤, FitsSigned, pos, ◌≤ℤ◌, ◌<ℤ◌, ◌+ℤ◌}
 use Rattle.std.specs.Int.{w64, w128}
 use Rattle.market_types.specs.Ranges.{IsSpec}
 use Rattle.account.specs.declared.account_spec.AccountSpec.{AccountSpec}
@@ -9,7 +9,7 @@ use Rattle.account.specs.declared.event.Event.{Event}
 use Rattle.account.specs.declared.event.Event.TheVariants as event
 use Rattle.account.specs.Keyed.{item}
 use Rattle.account.specs.Deals.{total, net, balance, trading_deals}
-use Rattle.account.specs.Positions.{position_ticket, open_positions, is_balance, dealt, after_deal}
+use Rattle.account.specs.Positions.{position_ticket, is_balance, dealt, after_deal}
 use Rattle.account.specs.Statistics.{gain, loss, balance_path}
 use Rattle.account.specs.StopOut.{margin_of}
 

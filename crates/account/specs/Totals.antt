@@ -1,6 +1,6 @@
 -- The totals that a ledger keeps: readings of the deals after the deposit, and how one more deal changes
 -- them (own).
-use Rattle.std.specs.Prelude.{ℕ, ◌+◌, ◌<◌, ◌^◌, Bool, true, false, if◌then◌else◌, List, FitsSigned, ℤ, pos, ◌+ℤ◌, ◌-ℤ◌}
+use Rattle.std.specs.Prelude.{ℕ, ◌+◌, ◌<◌, ◌^◌, Bool, if◌then◌else◌, List, FitsSigned, ℤ, pos, ◌+ℤ◌, ◌-ℤ◌}
 use Rattle.std.specs.Int.{w128}
 use Rattle.account.specs.declared.deal.Deal.{Deal}
 use Rattle.account.specs.declared.stats.Stats.{Stats}

@@ -88,7 +88,12 @@ fn is_full(books: &Books, spec: &AccountSpec, deal: &Deal) -> bool
 }
 
 /// Adds a deal to what is kept. A refused call changes no list.
-fn add_deal(books: &mut Books, spec: &AccountSpec, alloc: Global, deal: Deal) -> Result<(), LedgerFault>
+fn add_deal(
+    books: &mut Books,
+    spec: &AccountSpec,
+    alloc: Global,
+    deal: Deal,
+) -> Result<(), LedgerFault>
     requires books { IsBooks spec.now books.old }
     requires types { KeepsTypes (open_positions books.old.events.items) (event.Added deal) }
     requires within { IsWithin spec.now (books.old.events.items ++ event.Added deal ∷ []) }
@@ -159,7 +164,12 @@ fn apply_other(positions: &mut Vec<Position>, event: &Event)
 }
 
 /// Adds an event to what is kept. A refused call changes no list.
-fn add(books: &mut Books, spec: &AccountSpec, alloc: Global, event: Event) -> Result<(), LedgerFault>
+fn add(
+    books: &mut Books,
+    spec: &AccountSpec,
+    alloc: Global,
+    event: Event,
+) -> Result<(), LedgerFault>
     requires books { IsBooks spec.now books.old }
     requires types { KeepsTypes (open_positions books.old.events.items) event }
     requires within { IsWithin spec.now (books.old.events.items ++ event ∷ []) }
@@ -176,7 +186,8 @@ fn add(books: &mut Books, spec: &AccountSpec, alloc: Global, event: Event) -> Re
 
 /// What a ledger keeps of the deposit alone.
 fn books_of_deposit(alloc: Global, spec: &AccountSpec) -> Result<Books, OutOfMemory>
-    ensures { IfOk result (λ books. IsBooks spec.now books × (books.events.items ≡ event.Added (deposit_deal spec.now) ∷ [])) }
+    ensures { IfOk result (λ books. IsBooks spec.now books
+        × (books.events.items ≡ event.Added (deposit_deal spec.now) ∷ [])) }
 {
     let mut events = Vec::new(alloc);
     let mut deals = ItemList::new(alloc);
@@ -215,7 +226,8 @@ impl Ledger {
     /// The ledger of an account to which nothing happened but the deposit, deal 1.
     pub fn start(alloc: Global, spec: AccountSpec) -> Result<Ledger, OutOfMemory>
         requires { IsAccount spec }
-        ensures { IfOk result (λ ledger. ledger ≡ record { spec = spec; events = event.Added (deposit_deal spec) ∷ [] }) }
+        ensures { IfOk result (λ ledger. ledger
+            ≡ record { spec = spec; events = event.Added (deposit_deal spec) ∷ [] }) }
     {
         let books = books_of_deposit(alloc, &spec)?;
         Ok(Ledger { alloc, spec, books })

@@ -218,9 +218,5 @@ pub fn portion(amount: Money, part: Fix8, whole: Fix8) -> Money
     requires within { part ≤ℤ whole }
     ensures { result ≡ portion amount part whole }
 {
-    Money::of_cents(scaled(
-        amount.cents(),
-        part.units() as u64,
-        whole.units() as u64,
-    ))
+    Money::of_cents(scaled(amount.cents(), part.units() as u64, whole.units() as u64))
 }

@@ -224,7 +224,8 @@ fn change(position: &mut Position, deal: &Deal)
 fn change_at(positions: &mut Vec<Position>, i: usize, deal: &Deal)
     requires within { i < length positions.old.items }
     requires may { IfSome (slice_get positions.old.items i) (MayChange deal.now) }
-    ensures { (p q : _) → slice_get positions.old.items i ≡ Some p → dealt deal.now p ≡ Some q → positions.new.items ≡ slice_set positions.old.items i q }
+    ensures { (p q : _) → slice_get positions.old.items i ≡ Some p → dealt deal.now p ≡ Some q
+        → positions.new.items ≡ slice_set positions.old.items i q }
 {
     change(&mut positions[i], deal);
 }
@@ -260,7 +261,8 @@ fn add(positions: &mut Vec<Position>, deal: Deal)
     requires fresh { item position_ticket deal.position positions.old.items ≡ None }
     requires held { IsHeld (opened deal) }
     requires room { vec_len positions.old < vec_capacity positions.old }
-    ensures { positions.new.items ≡ put position_ticket deal.position (Some (opened deal)) positions.old.items }
+    ensures { positions.new.items
+        ≡ put position_ticket deal.position (Some (opened deal)) positions.old.items }
 {
     let i = lower(positions, deal.position);
     insert(positions, i, opened(deal));
@@ -286,7 +288,8 @@ pub fn apply_deal(positions: &mut Vec<Position>, deal: Deal)
 /// Sets the stops of the position at a place.
 fn stop_at(positions: &mut Vec<Position>, i: usize, sl: Fix8, tp: Fix8)
     requires { i < length positions.old.items }
-    ensures { (p : _) → slice_get positions.old.items i ≡ Some p → positions.new.items ≡ slice_set positions.old.items i (with_stops sl tp p) }
+    ensures { (p : _) → slice_get positions.old.items i ≡ Some p
+        → positions.new.items ≡ slice_set positions.old.items i (with_stops sl tp p) }
 {
     let position = &mut positions[i];
     position.sl = sl;
@@ -313,7 +316,8 @@ pub fn apply_stops(positions: &mut Vec<Position>, ticket: u64, sl: Fix8, tp: Fix
 fn swap_at(positions: &mut Vec<Position>, i: usize, amount: Money)
     requires within { i < length positions.old.items }
     requires fits { IfSome (slice_get positions.old.items i) (λ p. FitsSigned w128 (p.swap +ℤ amount)) }
-    ensures { (p : _) → slice_get positions.old.items i ≡ Some p → positions.new.items ≡ slice_set positions.old.items i (with_swap amount p) }
+    ensures { (p : _) → slice_get positions.old.items i ≡ Some p
+        → positions.new.items ≡ slice_set positions.old.items i (with_swap amount p) }
 {
     let position = &mut positions[i];
     position.swap = Money::of_cents(position.swap.cents() + amount.cents());

@@ -191,5 +191,9 @@ pub(crate) fn totals_after(totals: &Totals, deal: &Deal) -> Totals
     let balance = balance_after(totals, deal);
     let highest = highest_after(totals, deal);
     let stats = stats_after(totals, deal);
-    Totals { balance, highest, stats }
+    Totals {
+        balance,
+        highest,
+        stats,
+    }
 }

@@ -1,4 +1,4 @@
-use Rattle.std.proofs.Common.{rules, ◌≡◌, ◌∙◌, ◌++◌, ◌∷◌, [], List, Result, Ok, Err, OnOk, is_err, false, Bool, ap, sym, subst}
+use Rattle.std.proofs.Common.{◌≡◌, ◌∙◌, ◌++◌, ◌∷◌, [], List, Result, Ok, Err, OnOk, is_err, false, Bool, ap, sym, subst}
 use Rattle.account.specs.declared.deal.Deal.{Deal}
 use Rattle.account.specs.declared.position.Position.{Position}
 use Rattle.account.specs.declared.event.Event.{Event}
@@ -21,7 +21,7 @@ apply_deal-requires-clause-rising c = subst (λ (ps : List Position). Rising pos
 pub returns-clause-books : goal.returns-clause-books
 returns-clause-books c =
     books_more c.args.spec.now c.args.books.now _ c.args.deal c.requires.books (c.is_full.ensures.room c.if-is_full.false)
-      (c.push_event.ensures ∙ ap (λ (es : List Event). es ++ event.Added c.args.deal ∷ []) c.reserve.ensures.items)
-      (of_ok c.push.result c.is_err-3.result _ c.is_err-3.ensures.value c.if-is_err-3.false c.push.ensures.ok ∙ ap (λ (d : Deal). c.args.books.now.deals ++ d ∷ []) c.in-Ok.ensures)
-      (c.apply_deal.ensures.items ∙ ap (λ (ps : List Position). positions_after ps (event.Added c.in-Ok-copy_deal.opening)) c.reserve-2.ensures.items ∙ ap (λ (d : Deal). positions_after c.args.books.now.positions.items (event.Added d)) c.in-Ok-copy_deal.ensures)
-      c.totals_after-books.ensures
+    (c.push_event.ensures ∙ ap (λ (es : List Event). es ++ event.Added c.args.deal ∷ []) c.reserve.ensures.items)
+    (of_ok c.push.result c.is_err-3.result _ c.is_err-3.ensures.value c.if-is_err-3.false c.push.ensures.ok ∙ ap (λ (d : Deal). c.args.books.now.deals ++ d ∷ []) c.in-Ok.ensures)
+    (c.apply_deal.ensures.items ∙ ap (λ (ps : List Position). positions_after ps (event.Added c.in-Ok-copy_deal.opening)) c.reserve-2.ensures.items ∙ ap (λ (d : Deal). positions_after c.args.books.now.positions.items (event.Added d)) c.in-Ok-copy_deal.ensures)
+    c.totals_after-books.ensures

@@ -1,4 +1,4 @@
-use Rattle.std.proofs.Common.{rules, refl, ◌≡◌, ◌∙◌, ◌++◌, ◌∷◌, [], List, ap, sym, subst}
+use Rattle.std.proofs.Common.{refl, ◌∙◌, ◌++◌, ◌∷◌, [], List, ap, sym, subst}
 use Rattle.account.specs.declared.position.Position.{Position}
 use Rattle.account.specs.declared.event.Event.{Event}
 use Rattle.account.specs.Keyed.{Rising}
@@ -18,5 +18,5 @@ returns-clause-answers c = not_full c.args.books.now.events.items c.args.event c
 pub returns-clause-books : goal.returns-clause-books
 returns-clause-books c =
     books_same c.args.spec.now c.args.books.now _ c.args.event c.requires.books c.requires.other
-      (c.push_event.ensures ∙ ap (λ (es : List Event). es ++ c.args.event ∷ []) c.reserve.ensures.items)
-      refl c.apply_other.ensures refl
+    (c.push_event.ensures ∙ ap (λ (es : List Event). es ++ c.args.event ∷ []) c.reserve.ensures.items)
+    refl c.apply_other.ensures refl

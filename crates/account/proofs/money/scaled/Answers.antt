@@ -1,4 +1,4 @@
-use Rattle.std.proofs.Common.{refl, sym, ◌≡◌, ◌*◌, ◌≤◌, ◌^◌, ◌<◌, ◌∙◌, ap, ℕ, ℤ, Bool, pos, unsigned_abs, FitsSigned}
+use Rattle.std.proofs.Common.{sym, ◌*◌, ◌∙◌, ap, ℕ, Bool, unsigned_abs, FitsSigned}
 use Rattle.std.specs.Int.{w128}
 use Rattle.std.proofs.lemmas.Int.{to_z-of_z}
 use Rattle.fx8.specs.Rounding.{nearest, signed, is_below_zero}

@@ -1,6 +1,5 @@
-use Rattle.std.proofs.Common.{refl, subst, sym, ◌≡◌, ◌+◌, ◌*◌, ◌/◌, ◌%◌, ◌≤◌, ◌^◌, ◌<◌, ℕ, arith, ◌∙◌, ap}
-use Rattle.fx8.specs.Rounding.{nearest}
-use Rattle.account.proofs.Scaling.{rest_room, rest_small, scaled_sum, scaled_most}
+use Rattle.std.proofs.Common.{refl, ◌/◌, ◌%◌, arith}
+use Rattle.account.proofs.Scaling.{rest_room, scaled_sum, scaled_most}
 use Rattle.account.proofs.money.scaled_size.Goals as goal
 
 pub product-requires-2 : goal.product-requires-2

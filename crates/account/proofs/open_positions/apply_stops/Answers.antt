@@ -1,4 +1,4 @@
-use Rattle.std.proofs.Common.{rules, sym, subst, ◌∙◌, ◌≡◌, List, slice_get, Some}
+use Rattle.std.proofs.Common.{rules, sym, subst, ◌∙◌, List}
 use Rattle.account.specs.Keyed.{Rising}
 use Rattle.account.specs.Positions.{position_ticket, with_stops}
 use Rattle.account.specs.declared.position.Position.{Position}
@@ -16,7 +16,7 @@ pub returns-in-Some-clause-rising : goal.returns-in-Some-clause-rising
 returns-in-Some-clause-rising c =
     let s : Stands position_ticket c.args.ticket c.args.positions.now.items c.in-Some.i = stands position_ticket c.args.ticket c.args.positions.now.items c.in-Some.i c.requires.rising (search rules) in
     subst (λ (ps : List Position). Rising position_ticket ps) (sym (c.stop_at.ensures s.one s.there ∙ sym (changed_at position_ticket c.args.ticket (with_stops c.args.sl c.args.tp) c.args.positions.now.items c.in-Some.i s.one c.requires.rising (search rules) s.there)))
-      (rising_after c.args.positions.now.items (event.Stops c.args.ticket c.args.sl c.args.tp) c.requires.rising)
+    (rising_after c.args.positions.now.items (event.Stops c.args.ticket c.args.sl c.args.tp) c.requires.rising)
 
 pub returns-in-None-clause-items : goal.returns-in-None-clause-items
 returns-in-None-clause-items c = changed_none position_ticket c.args.ticket (with_stops c.args.sl c.args.tp) c.args.positions.now.items c.requires.rising (search rules)

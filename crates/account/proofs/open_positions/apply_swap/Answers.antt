@@ -1,4 +1,4 @@
-use Rattle.std.proofs.Common.{rules, sym, subst, ◌∙◌, ◌≡◌, List, slice_get, Some, FitsSigned, ◌+ℤ◌}
+use Rattle.std.proofs.Common.{rules, sym, subst, ◌∙◌, List, FitsSigned, ◌+ℤ◌}
 use Rattle.std.specs.Int.{w128}
 use Rattle.account.specs.Keyed.{Rising}
 use Rattle.account.specs.Positions.{position_ticket, with_swap}
@@ -17,7 +17,7 @@ pub returns-in-Some-clause-rising : goal.returns-in-Some-clause-rising
 returns-in-Some-clause-rising c =
     let s : Stands position_ticket c.args.ticket c.args.positions.now.items c.in-Some.i = stands position_ticket c.args.ticket c.args.positions.now.items c.in-Some.i c.requires.rising (search rules) in
     subst (λ (ps : List Position). Rising position_ticket ps) (sym (c.swap_at.ensures s.one s.there ∙ sym (changed_at position_ticket c.args.ticket (with_swap c.args.amount) c.args.positions.now.items c.in-Some.i s.one c.requires.rising (search rules) s.there)))
-      (rising_after c.args.positions.now.items (event.Swap c.args.ticket c.args.amount) c.requires.rising)
+    (rising_after c.args.positions.now.items (event.Swap c.args.ticket c.args.amount) c.requires.rising)
 
 pub returns-in-None-clause-items : goal.returns-in-None-clause-items
 returns-in-None-clause-items c = changed_none position_ticket c.args.ticket (with_swap c.args.amount) c.args.positions.now.items c.requires.rising (search rules)

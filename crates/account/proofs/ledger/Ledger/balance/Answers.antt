@@ -1,4 +1,4 @@
-use Rattle.std.proofs.Common.{◌∙◌, ap, sym, ◌+ℤ◌}
+use Rattle.std.proofs.Common.{◌∙◌, ap, ◌+ℤ◌}
 use Rattle.account.specs.Journal.{Journal}
 use Rattle.account.specs.Deals.{balance, total, trading_deals, profit_of, swap_of, commission_of}
 use Rattle.account.proofs.Kept.{balance_kept, balance_sums}
