@@ -1,5 +1,7 @@
-//! Tests of the account's crates that cross them.
+//! Tests of the account's crates.
 #![tactic(auto)]
 
+#[cfg(test)]
+mod ledger;
 #[cfg(test)]
 mod orders;
