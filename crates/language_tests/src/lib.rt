@@ -8,7 +8,7 @@ mod lowering;
 #[cfg(test)]
 mod macros;
 #[cfg(test)]
-mod natives;
+mod native_tables;
 #[cfg(test)]
 mod spelling;
 #[cfg(test)]
