@@ -1,7 +1,9 @@
 -- The values of dates and colors, from their fields.
-use Rattle.std.specs.Prelude.{ℕ, ◌+◌, ◌-◌, ◌*◌, ◌/◌, ◌%◌, Bool, not, ◌==◌, ◌&&◌, ◌||◌, nat_lt, nat_le, List, [], ◌∷◌, Option, Some, None, option_and_then, if◌then◌else◌}
+use Rattle.std.specs.Prelude.{ℕ, ◌+◌, ◌-◌, ◌*◌, ◌==◌, ◌&&◌, nat_lt, pos, List, [], ◌∷◌, Option, Some, None, option_and_then, if◌then◌else◌}
 use Rattle.mql_spelling.specs.declared.marked.Day.{Day}
 use Rattle.fx8.specs.Decimals.{is_digit}
+use Rattle.jiff_core.specs.Calendar.{days_from_civil}
+use Rattle.calendar.specs.Days.{is_day, second}
 use Rattle.mql_spelling.specs.Value.{value_from}
 use Rattle.mql_spelling.specs.Real.{digits_len, digits_front, digits_rest}
 
@@ -84,49 +86,14 @@ unfoldable pub time_at : List ℕ → Option ℕ
 time_at [] = Some 0
 time_at (u ∷ us) = if u == 32 then clock_at us else None
 
--- a leap year (the Gregorian calendar)
-abbrev pub is_leap : ℕ → Bool
-is_leap y = (y % 4 == 0) && (not (y % 100 == 0) || (y % 400 == 0))
-
--- how many days a month has (the Gregorian calendar)
-unfoldable pub month_days : Bool → ℕ → ℕ
-month_days leap m =
-    if m == 2 then (if leap then 29 else 28)
-    else if (m == 4) || ((m == 6) || ((m == 9) || (m == 11))) then 30
-    else 31
-
--- how many days stand before a month in a year without a leap day (the Gregorian calendar)
-unfoldable pub days_before : ℕ → ℕ
-days_before m =
-    if m == 1 then 0 else if m == 2 then 31 else if m == 3 then 59 else if m == 4 then 90
-    else if m == 5 then 120 else if m == 6 then 151 else if m == 7 then 181 else if m == 8 then 212
-    else if m == 9 then 243 else if m == 10 then 273 else if m == 11 then 304 else 334
-
--- the leap day of this year stands before the month
-abbrev pub leap_day : Bool → ℕ → ℕ
-leap_day leap m = if leap && nat_lt 2 m then 1 else 0
-
--- the leap days of the years from 1970 to the one before y (the Gregorian calendar)
-abbrev pub leap_days : ℕ → ℕ
-leap_days y = ((y - 1) / 4 + (y - 1) / 400) - ((y - 1) / 100 + 477)
-
--- a day of the years 1970 to 2999 (MQL5 Reference, Datetime Type; own for the last year)
-unfoldable pub is_day : Day → Bool
-is_day d =
-    (nat_le 1970 d.year && nat_lt d.year 3000)
-    && ((nat_le 1 d.month && nat_le d.month 12)
-    && (nat_le 1 d.day && nat_le d.day (month_days (is_leap d.year) d.month)))
-
--- how many days a day is behind the first one of 1970
-abbrev pub day_number : Day → ℕ
-day_number d =
-    365 * (d.year - 1970) + leap_days d.year + days_before d.month + leap_day (is_leap d.year) d.month
-    + (d.day - 1)
-
--- the seconds from the beginning of 1970 to that time of that day (MQL5 Reference, Datetime Type)
+-- the seconds from the beginning of 1970 to that time of that day, of the years 1970 to 2999
+-- (MQL5 Reference, Datetime Type; own for the last year)
 unfoldable pub moment : Day → Option ℕ → Option ℕ
 moment d None = None
-moment d (Some time) = if is_day d then Some (86400 * day_number d + time) else None
+moment d (Some time) =
+    if is_day d.year d.month d.day
+    then Some (second (days_from_civil (pos d.year) d.month d.day) time)
+    else None
 
 unfoldable pub date_value : List ℕ → Option ℕ
 date_value us = day_at us >>= λ found. moment found.0 (time_at found.1)

@@ -1,10 +1,11 @@
 //! The values of dates and colors.
-ghost use Rattle.std.specs.Prelude.{◌≡◌, ℕ, ◌+◌, ◌*◌, ◌<◌, ◌≤◌, List, length, IfSome, IsTrue, Some, None, option_map};
-ghost use Rattle.mql_spelling.specs.Marked.{pair_end, behind_unit, at_the_end, channel, color_value, digit_pair, day_at, second_at, clock, clock_at, time_at, is_leap, month_days, days_before, leap_day, leap_days, is_day, day_number, moment, date_value};
+ghost use Rattle.std.specs.Prelude.{◌≡◌, ℕ, ◌+◌, ◌*◌, ◌<◌, ◌≤◌, List, length, IfSome, Some, None, option_map};
+ghost use Rattle.mql_spelling.specs.Marked.{pair_end, behind_unit, at_the_end, channel, color_value, digit_pair, day_at, second_at, clock, clock_at, time_at, moment, date_value};
 
 use crate::real::{digits_front, digits_len, digits_rest};
 use crate::units::is_digit;
 use crate::value::number;
+use calendar::second_of;
 
 /// What follows this unit.
 #[tactic(auto, unfolding(crate::specs::Marked::behind_unit))]
@@ -161,108 +162,6 @@ fn time_at(units: &[u16]) -> Option<u64>
     }
 }
 
-fn is_leap(year: u64) -> bool
-    ensures { result ≡ is_leap year }
-{
-    year % 4 == 0 && (year % 100 != 0 || year % 400 == 0)
-}
-
-#[tactic(auto, unfolding(crate::specs::Marked::month_days))]
-fn month_days(leap: bool, month: u64) -> u64
-    ensures value { result ≡ month_days leap month }
-    ensures small { result ≤ 31 }
-{
-    if month == 2 {
-        return if leap { 29 } else { 28 };
-    }
-    if month == 4 || (month == 6 || (month == 9 || month == 11)) {
-        return 30;
-    }
-    31
-}
-
-#[tactic(auto, unfolding(crate::specs::Marked::days_before))]
-fn days_before(month: u64) -> u64
-    ensures value { result ≡ days_before month }
-    ensures small { result ≤ 334 }
-{
-    if month == 1 {
-        return 0;
-    }
-    if month == 2 {
-        return 31;
-    }
-    if month == 3 {
-        return 59;
-    }
-    if month == 4 {
-        return 90;
-    }
-    if month == 5 {
-        return 120;
-    }
-    if month == 6 {
-        return 151;
-    }
-    if month == 7 {
-        return 181;
-    }
-    if month == 8 {
-        return 212;
-    }
-    if month == 9 {
-        return 243;
-    }
-    if month == 10 {
-        return 273;
-    }
-    if month == 11 {
-        return 304;
-    }
-    334
-}
-
-fn leap_day(leap: bool, month: u64) -> u64
-    ensures value { result ≡ leap_day leap month }
-    ensures small { result ≤ 1 }
-{
-    if leap && month > 2 { 1 } else { 0 }
-}
-
-fn leap_days(year: u64) -> u64
-    requires { year < 3000 }
-    ensures value { result ≡ leap_days year }
-    ensures small { result < 3000 }
-{
-    let past = year.saturating_sub(1);
-    (past / 4 + past / 400).saturating_sub(past / 100 + 477)
-}
-
-#[tactic(auto, unfolding(crate::specs::Marked::is_day))]
-fn is_day(day: Day) -> bool
-    ensures value { result ≡ is_day day }
-    ensures year { IsTrue result → day.year < 3000 }
-    ensures day { IsTrue result → day.day ≤ 31 }
-{
-    (1970 <= day.year && day.year < 3000)
-        && ((1 <= day.month && day.month <= 12)
-            && (1 <= day.day && day.day <= month_days(is_leap(day.year), day.month)))
-}
-
-/// How many days a day is behind the first one of 1970.
-fn day_number(day: Day) -> u64
-    requires year { day.year < 3000 }
-    requires day { day.day ≤ 31 }
-    ensures value { result ≡ day_number day }
-    ensures small { result < 2000000 }
-{
-    365 * day.year.saturating_sub(1970)
-        + leap_days(day.year)
-        + days_before(day.month)
-        + leap_day(is_leap(day.year), day.month)
-        + day.day.saturating_sub(1)
-}
-
 /// The seconds from the beginning of 1970 to that time of that day.
 #[tactic(auto, unfolding(crate::specs::Marked::moment))]
 fn moment(day: Day, time: Option<u64>) -> Option<u64>
@@ -271,11 +170,7 @@ fn moment(day: Day, time: Option<u64>) -> Option<u64>
 {
     match time {
         None => None,
-        Some(seconds) => if is_day(day) {
-            Some(86400 * day_number(day) + seconds)
-        } else {
-            None
-        },
+        Some(seconds) => second_of(day.year, day.month, day.day, seconds),
     }
 }
 

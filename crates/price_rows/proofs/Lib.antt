@@ -1,4 +1,3 @@
-pub mod Days
 pub mod Instants
 pub mod RowLaws
 pub mod Texts

@@ -1,18 +1,9 @@
 -- Dates and times as a price file writes them, in the calendar of the library `jiff`.
-use Rattle.std.specs.Prelude.{ℕ, ◌+◌, ◌*◌, Bool, ◌&&◌, nat_le, List, [], ◌∷◌, Option, Some, None, option_map, ℤ, pos, ◌+ℤ◌, ◌*ℤ◌, ◌≤ℤ◌}
-use Rattle.jiff_core.specs.Calendar.{days_in_month, days_from_civil}
+use Rattle.std.specs.Prelude.{ℕ, ◌+◌, ◌*◌, List, [], ◌∷◌, Option, Some, None, option_map, ℤ, pos, ◌+ℤ◌, ◌*ℤ◌}
+use Rattle.jiff_core.specs.Calendar.{days_from_civil}
+use Rattle.calendar.specs.Days.{is_day, instant}
 use Rattle.price_rows.specs.Numbers.{whole_of}
 use Rattle.decimals.specs.Texts.{given, provided, parts}
-
--- a day that the calendar has, of the years 1970 to 2999
-abbrev pub is_day : ℕ → ℕ → ℕ → Bool
-is_day year month day = nat_le 1970 year && nat_le 1 month && nat_le 1 day
-    && nat_le day (days_in_month (pos year) month)
-
--- the day number of a day from 1970.01.01 to 2999.12.31
-pub record IsDayNumber (day : ℤ) : Type 0 where
-  pub from : pos 0 ≤ℤ day
-  pub to : day ≤ℤ pos 376199
 
 -- three parts, and no more
 abbrev pub three : List (List ℕ) → Option (List ℕ × List ℕ × List ℕ)
@@ -51,10 +42,6 @@ clock_of h m s =
 -- the milliseconds since midnight of a time such as 10:00:00 or 10:00:00.100
 abbrev pub time_of : List ℕ → Option ℕ
 time_of time = given (three (parts 58 time)) (λ p. clock_of p.0 p.1 p.2)
-
--- the milliseconds since 1970.01.01 00:00 of a day and the milliseconds since its midnight
-abbrev pub instant : ℤ → ℕ → ℤ
-instant day ms = day *ℤ pos 86400000 +ℤ pos ms
 
 -- when a tick came, in milliseconds since 1970.01.01 00:00
 abbrev pub moment : List ℕ → List ℕ → Option ℤ

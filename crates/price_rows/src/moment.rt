@@ -1,15 +1,13 @@
 //! Dates and times of a price file, on the calendar of `jiff`.
 ghost use Rattle.std.specs.Prelude.{◌≡◌, ◌<◌, ◌≤◌, ◌*◌, pos, ◌*ℤ◌, ◌≤ℤ◌, None, Some, MatchOption, IfSome};
-ghost use Rattle.jiff.specs.Words.{civil_nanos, epoch_day};
 ghost use Rattle.decimals.specs.Texts.{given, provided, parts};
-ghost use Rattle.price_rows.specs.Moments.{three, is_day, instant, day_number, day_of, date_of, time_of, clock_of, seconds_of_parts, moment, minutes_of, minute_time, minute, IsDayNumber};
+ghost use Rattle.calendar.specs.Days.{is_day, instant};
+ghost use Rattle.price_rows.specs.Moments.{three, day_number, day_of, date_of, time_of, clock_of, seconds_of_parts, moment, minutes_of, minute_time, minute};
 ghost use Rattle.market_types.specs.Ordered.{IsMoment, IsMinute};
-ghost use Rattle.jiff_core.specs.Calendar.{days_from_civil};
 
 use crate::numbers::whole_of;
+use calendar::instant_of;
 use decimals::Parts;
-use jiff::civil::{Date, Time};
-use jiff::tz::Offset;
 
 /// The three parts of a text round its two separators.
 fn three<'a>(text: &'a [u8], separator: u8) -> Option<(&'a [u8], &'a [u8], &'a [u8])>
@@ -68,46 +66,6 @@ fn time_of(time: &[u8]) -> Option<u64>
 {
     let (hours, minutes, seconds) = three(time, b':')?;
     clock_of(hours, minutes, seconds)
-}
-
-/// The milliseconds since 1970-01-01 00:00 of a day of the calendar, of the years 1970 to 2999, and the
-/// milliseconds since its midnight; `None` exactly where the calendar has no such day.
-fn instant_of(year: u64, month: u64, day: u64, clock_ms: u64) -> Option<i64>
-    requires year { year ≤ 2999 }
-    requires month { month ≤ 12 }
-    requires day { day ≤ 31 }
-    requires clock { clock_ms < 86400000 }
-    ensures value { result ≡ provided (is_day year month day)
-        (instant (days_from_civil (pos year) month day) clock_ms) }
-    ensures range { IfSome result IsMoment }
-{
-    if year < 1970 {
-        return None;
-    }
-    let Ok(date) = Date::new(year as i16, month as i8, day as i8) else {
-        return None;
-    };
-    Some(instant_on(date, clock_ms))
-}
-
-/// The milliseconds since 1970-01-01 00:00 of a date of the years 1970 to 2999 and a time of day.
-fn instant_on(date: Date, clock_ms: u64) -> i64
-    requires day { IsDayNumber (epoch_day date) }
-    requires clock { clock_ms < 86400000 }
-    ensures { result ≡ instant (epoch_day date) clock_ms }
-{
-    let seconds = clock_ms / 1000;
-    let hour = (seconds / 3600) as i8;
-    let minute = (seconds / 60 % 60) as i8;
-    let second = (seconds % 60) as i8;
-    let nanos = (clock_ms % 1000 * 1_000_000) as i32;
-    let Ok(time) = Time::new(hour, minute, second, nanos) else {
-        return 0;
-    };
-    let Ok(at) = Offset::UTC.to_timestamp(date.to_datetime(time)) else {
-        return 0;
-    };
-    at.as_millisecond()
 }
 
 /// The milliseconds since 1970-01-01 00:00 of a date such as 2020.01.02 and the milliseconds since its

@@ -1,21 +1,19 @@
 -- The day number of a day that the calendar has.
-use Rattle.std.proofs.Common.{◌≡◌, ℕ, ◌<◌, ◌≤◌, ℤ, pos, true, Some, refl, sym, ap, arith}
+use Rattle.std.proofs.Common.{◌≡◌, ℕ, ◌<◌, ◌≤◌, ℤ, pos, true, refl, arith}
 use Rattle.std.proofs.lemmas.Int.{ints, by_lt_z}
 use Rattle.std.proofs.lemmas.Bool.{and_from, le-leb}
 use Rattle.jiff_core.specs.Calendar.{IsDate, IsCivilDate, days_in_month, days_from_civil, day_count, day_of_year}
 use Rattle.jiff_core.proofs.MarchLemmas.{day_count-early}
 use Rattle.jiff_core.proofs.CalendarLemmas.{day_count-later_year, day_count-lt_year, day_count-day_of_year}
-use Rattle.price_rows.specs.Moments.{is_day, day_number, IsDayNumber}
+use Rattle.calendar.specs.Days.{is_day, IsDayNumber}
 
-pub is_day_from : (year month day : ℕ) → 1970 ≤ year → IsDate (pos year) (pos month) (pos day) → is_day year month day ≡ true
-is_day_from year month day h d =
+pub is_day_from : (year month day : ℕ) → 1970 ≤ year → year ≤ 2999 → IsDate (pos year) (pos month) (pos day) → is_day year month day ≡ true
+is_day_from year month day from to d =
     let m : 1 ≤ month = omega (arith, ints, d.1.0) in
-    let n : 1 ≤ day = omega (arith, ints, d.2.0) in
+    let n : month ≤ 12 = omega (arith, ints, d.1.1) in
+    let o : 1 ≤ day = omega (arith, ints, d.2.0) in
     let e : day ≤ days_in_month (pos year) month = omega (arith, ints, d.2.1) in
-    and_from _ _ (and_from _ _ (and_from _ _ (le-leb 1970 year h) (le-leb 1 month m)) (le-leb 1 day n)) (le-leb day (days_in_month (pos year) month) e)
-
-pub day_number_is : (year month day : ℕ) (r : ℤ) → 1970 ≤ year → IsDate (pos year) (pos month) (pos day) → r ≡ days_from_civil (pos year) month day → day_number year month day ≡ Some r
-day_number_is year month day r h d e = rw (is_day_from year month day h d) (ap Some (sym e))
+    and_from _ _ (and_from _ _ (and_from _ _ (and_from _ _ (and_from _ _ (le-leb 1970 year from) (le-leb year 2999 to)) (le-leb 1 month m)) (le-leb month 12 n)) (le-leb 1 day o)) (le-leb day (days_in_month (pos year) month) e)
 
 pub same_day : (y : ℤ) (m d year month day : ℕ) → y ≡ pos year → pos m ≡ pos month → pos d ≡ pos day → days_from_civil y m d ≡ days_from_civil (pos year) month day
 same_day y m d year month day e f g =

@@ -1,9 +1,9 @@
 use Rattle.std.proofs.Common.{◌≡◌, ◌∙◌, arith, sym, pos, ◌*ℤ◌, true≢false}
 use Rattle.std.proofs.lemmas.Int.{ints}
 use Rattle.jiff_core.specs.Date.{epoch_day}
-use Rattle.price_rows.specs.Moments.{instant}
-use Rattle.price_rows.proofs.Instants.{nanos_all, quot_back, instant_from}
-use Rattle.price_rows.proofs.moment.instant_on.Goals as goal
+use Rattle.calendar.specs.Days.{instant}
+use Rattle.calendar.proofs.Instants.{nanos_all, quot_back, instant_from}
+use Rattle.calendar.proofs.instant.instant_on.Goals as goal
 
 pub returns-in_default-to_timestamp : goal.returns-in_default-to_timestamp
 returns-in_default-to_timestamp c =
