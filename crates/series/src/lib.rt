@@ -9,10 +9,6 @@ mod laws;
 mod quote_words;
 mod series;
 mod symbol_bars;
-#[cfg(test)]
-mod tests;
-#[cfg(test)]
-mod worked;
 
 pub use fault::SeriesFault;
 pub use indicators::IndicatorSpec;

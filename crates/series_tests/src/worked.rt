@@ -1,7 +1,7 @@
 //! Worked prices and indicators over them; the buffers over `PRICES` come from an independent implementation.
 
-use crate::IndicatorSpec;
 use market_types::Period;
+use series::IndicatorSpec;
 
 /// An indicator, the number of values in its buffer, and their digest: each value added to 1,000,003 times the
 /// digest of those before, modulo 2^64.

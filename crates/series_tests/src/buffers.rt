@@ -4,11 +4,10 @@ ghost use Rattle.market_types.specs.declared.quote.Quote.{Quote};
 ghost use Rattle.market_data.specs.Quotes.{IsQuote};
 ghost use Rattle.series.specs.Bars.{lots};
 
-use crate::laws::few_quotes_fit;
 use crate::worked::{BUFFERS, Buffer, CLOSES, OF_CLOSES, PRICES};
-use crate::{Series, SeriesFault};
 use fx8::{Fix8, FixList, Money, OutOfMemory, Text8};
-use market_types::{Quote, Specs, SymbolSpec};
+use market_types::{BarList, Period, Quote, Specs, SymbolSpec};
+use series::{Series, SeriesFault, few_quotes_fit};
 use std::alloc::Global;
 use std::test::Fail;
 
@@ -126,5 +125,26 @@ fn buffers_over_worked_bars(rt: HostRuntime) -> Result<(), Fail> {
 #[test]
 fn buffers_over_three_closes(rt: HostRuntime) -> Result<(), Fail> {
     assert!(rt; agrees(rt.alloc(), &CLOSES, &OF_CLOSES)?);
+    Ok(())
+}
+
+/// Whether the two newest bars of three closes are told, the older first.
+fn tells_two_bars(alloc: Global) -> Result<bool, SeriesFault> {
+    let quotes = quotes_of(alloc, &CLOSES)?;
+    if quotes.len() > 1_000 {
+        return Ok(false);
+    }
+    let series = series_of(alloc, quotes.as_slice())?;
+    let mut bars = BarList::new(alloc);
+    series.copy(0, Period::M1, 0, 2, &mut bars)?;
+    match bars.as_slice() {
+        [older, newer] => Ok(older.c.units() == 200_000_000 && newer.c.units() == 400_000_000),
+        _ => Ok(false),
+    }
+}
+
+#[test]
+fn bars_of_three_closes(rt: HostRuntime) -> Result<(), Fail> {
+    assert!(rt; tells_two_bars(rt.alloc())?);
     Ok(())
 }

@@ -1,6 +1,6 @@
 use Rattle.std.proofs.Common.{◌≤◌, length, take}
 use Rattle.series.specs.Stands.{StandsFor}
-use Rattle.series.proofs.tests.series_of.Given as goal
+use Rattle.series_tests.proofs.buffers.series_of.Given as goal
 
 abbrev pub invariant-loop-quote : goal.invariant-loop-quote
 invariant-loop-quote l = record {

@@ -5,7 +5,7 @@ use Rattle.std.proofs.lemmas.List.Elements.{All-take, All-push, All-weaker}
 use Rattle.market_types.specs.declared.quote.Quote.{Quote}
 use Rattle.market_data.specs.Quotes.{IsQuote}
 use Rattle.series.specs.Bars.{lots}
-use Rattle.series.proofs.tests.series_of.Goals as goal
+use Rattle.series_tests.proofs.buffers.series_of.Goals as goal
 
 abbrev IsFirst : Quote → Type 0
 IsFirst q = IsQuote q × (q.symbol ≡ 0) × (lots q ≤ 2 ^ 63)
