@@ -10,8 +10,6 @@ mod macros;
 #[cfg(test)]
 mod native_tables;
 #[cfg(test)]
-mod spelling;
-#[cfg(test)]
 mod text;
 #[cfg(test)]
 mod tokens;

@@ -110,7 +110,12 @@ fn tokens_of_texts(rt: HostRuntime) -> Result<(), Fail> {
             "D'2020.01.02 03:04:05' C'255,0,1'",
             "1577934245 Datetime; 65791 Color; ",
         ),
+        (
+            "D'1970.01.01' D'2000.02.29 23:59' D'2999.12.31'",
+            "0 Datetime; 951868740 Datetime; 32503593600 Datetime; ",
+        ),
         ("D'2001.02.29'", "no token at line 1"),
+        ("D'3000.01.01'", "no token at line 1"),
         ("C'256,0,0'", "no token at line 1"),
         ("a>>=b", "name [97]; sign ShiftRightAssign; name [98]; "),
         ("a/*b*/c", "name [97]; name [99]; "),

@@ -4,8 +4,6 @@
 #[cfg(test)]
 mod grammar;
 #[cfg(test)]
-mod level;
-#[cfg(test)]
 mod order;
 #[cfg(test)]
 mod parsing;
