@@ -50,7 +50,8 @@ abbrev pub are_opposite : Position → Position → Bool
 are_opposite p q = p.symbol == q.symbol && not (same_side p.buy q.buy)
 
 -- the events of a close-by of two positions, or why it is refused: both are to be open, and opposite
-abbrev pub closed_both : List SymbolSpec → Fill → Option Position → Option Position → Result (List Event) FillFault
+abbrev pub closed_both : List SymbolSpec → Fill → Option Position → Option Position →
+    Result (List Event) FillFault
 closed_both specs at None o = Err fault.PositionClosed
 closed_both specs at (Some p) None = Err fault.PositionClosed
 closed_both specs at (Some p) (Some q) =

@@ -128,8 +128,8 @@ fn change_to(ticket: u64, sl: Fix8, tp: Fix8, levels: Levels) -> Option<Change>
 
 /// The change of stops that follows a deal.
 fn stops_after(fill: &Fill, deal: &Deal, on: Option<&Position>) -> Option<Change>
-    ensures { change_events result
-        ≡ stops_event (after_deal deal.now (option_copied on.entry)) (levels_of fill.now (option_copied on.entry)) }
+    ensures { change_events result ≡ stops_event
+        (after_deal deal.now (option_copied on.entry)) (levels_of fill.now (option_copied on.entry)) }
 {
     let levels = levels_of(fill, on);
     match on {

@@ -38,10 +38,10 @@ pub trait PositionRule {
         ensures same_specs { specs self.new ≡ specs self.old }
         ensures same_kind { hedging self.new ≡ hedging self.old };
 
-    /// Closes the smaller volume of two opposite positions by each other, and adds the two deals of that: the
-    /// first on `one` at the open price of `other`, the second, of the next number, on `other` at its own open
-    /// price. Order, time, number of the first deal, magic, reason and comment are those of `at`. A refused
-    /// call changes nothing.
+    /// Closes the smaller volume of two opposite positions by each other, and adds the two deals of that:
+    /// the first on `one` at the open price of `other`, the second, of the next number, on `other` at its
+    /// own open price. Order, time, number of the first deal, magic, reason and comment are those of `at`.
+    /// A refused call changes nothing.
     fn close_by(
         &mut self,
         one: u64,
@@ -75,8 +75,8 @@ pub trait PositionRule {
         ensures same_specs { specs self.new ≡ specs self.old }
         ensures same_kind { hedging self.new ≡ hedging self.old };
 
-    /// The position that a fill meets: under netting the one that is open on its symbol, under hedging the one
-    /// that it names; `None` where it opens one.
+    /// The position that a fill meets: under netting the one that is open on its symbol, under hedging the
+    /// one that it names; `None` where there is none.
     fn met(&self, fill: &Fill) -> Option<&Position>
         ensures { option_copied result ≡ met (hedging self.now) (positions self.now) fill.now };
 
