@@ -1,5 +1,5 @@
 //! What fills and close-bys make of positions, by the worked examples.
-ghost use Rattle.std.specs.Prelude.{◌≡◌, ◌<◌, IsTrue, IfOk, All, length, None, pos, ◌<ℤ◌};
+ghost use Rattle.std.specs.Prelude.{◌≡◌, ◌<◌, IsTrue, IfOk, All, length, None};
 ghost use Rattle.std.specs.Option.{option_copied};
 ghost use Rattle.market_types.specs.Ranges.{IsSpec};
 ghost use Rattle.account.specs.Keyed.{item};
