@@ -5,3 +5,5 @@
 mod ledger;
 #[cfg(test)]
 mod orders;
+#[cfg(test)]
+mod worked;
