@@ -36,7 +36,8 @@ fn is_on(symbol: u64, buy: bool, position: &Position) -> bool
 /// What all positions bind together.
 fn margin_sum(spec: &AccountSpec, positions: &[Position]) -> Money
     requires { IsAccount spec.now }
-    ensures { result ≡ int_wrap w128 (total (position_margin spec.now.specs spec.now.leverage) positions.now) }
+    ensures { result ≡ int_wrap w128
+        (total (position_margin spec.now.specs spec.now.leverage) positions.now) }
 {
     let mut sum = Money::of_cents(0);
     let mut rest = positions;
