@@ -53,7 +53,8 @@ abbrev pub is_on : ℕ → Bool → Position → Bool
 is_on symbol buy p = p.symbol == symbol && same_side p.buy buy
 
 abbrev pub side_margin : List SymbolSpec → ℕ → List Position → Bool → ℕ → ℤ
-side_margin specs leverage ps buy symbol = total (position_margin specs leverage) (filter (is_on symbol buy) ps)
+side_margin specs leverage ps buy symbol =
+    total (position_margin specs leverage) (filter (is_on symbol buy) ps)
 
 -- under hedging a symbol binds the greater of the sums of both sides
 abbrev pub symbol_margin : List SymbolSpec → ℕ → List Position → ℕ → ℤ

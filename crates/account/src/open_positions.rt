@@ -246,7 +246,8 @@ fn deal_at(positions: &mut Vec<Position>, i: usize, deal: &Deal)
     requires within { i < length positions.old.items }
     requires may { MayDeal deal.now (item position_ticket deal.now.position positions.old.items) }
     ensures items { positions.new.items ≡ put position_ticket deal.now.position
-        (after_deal deal.now (item position_ticket deal.now.position positions.old.items)) positions.old.items }
+        (after_deal deal.now (item position_ticket deal.now.position positions.old.items))
+        positions.old.items }
 {
     if is_closed_by(nth(positions, i), deal) {
         let _closed = positions.remove(i);

@@ -7,3 +7,5 @@ mod fills;
 mod ledger;
 #[cfg(test)]
 mod orders;
+#[cfg(test)]
+mod worked;
