@@ -3,6 +3,7 @@ use Rattle.std.proofs.Common.{◌≡◌, ℕ, pos, Bool, true, false, [], ◌∷
 use Rattle.std.specs.Prelude.{codes, replicate}
 use Rattle.fx8.specs.declared.int_kind.IntKind.TheVariants as kind
 use Rattle.fx8.specs.declared.int_operator.IntOperator.TheVariants as op
+use Rattle.natives.specs.declared.native.Native.TheVariants as natives
 use Rattle.mql_mean.specs.Answer.{Refused}
 use Rattle.mql_mean.specs.declared.value.Value.TheVariants as value
 use Rattle.mql_mean.specs.declared.error.ErrorKind.TheVariants as error
@@ -20,7 +21,7 @@ use Rattle.mql_meaning.specs.Runs.{world}
 use Rattle.mql_meaning.specs.Frames.{opening}
 use Rattle.mql_meaning.specs.Means.{Outcome}
 use Rattle.mql_meaning.specs.declared.cell.Cell.TheVariants as cell
-use Rattle.mql_meaning.proofs.Programs.{int, dbl, txt, yes', no', on1, on2, loc, glob, rd, var, binary, binary_d, convert, this, element, call, value_call, does, set, print, say, calls, of_type, array_of, ints, function, void, taking, giving, has, no_entries, program, body, answer, answers, told, tells, done, outcome_of, first_world, run, Told}
+use Rattle.mql_meaning.proofs.Programs.{Told, answer, answers, array_of, binary, binary_d, body, call, calls, convert, dbl, does, done, element, first_world, function, giving, glob, has, int, ints, loc, native, no', no_entries, of_type, on1, on2, outcome_of, print, program, rd, run, say, set, structure, taking, tells, this, told, txt, value_call, var, void, with_classes, yes'}
 
 -- OnTick prints x and loops for ever: with 10 steps one is Start's, one OnTick's, and 8 are tests
 bounded : Checked
@@ -234,3 +235,13 @@ no_answer = refl
 refused : told (outcome_of recursion entry.Tick (pos 0) 9 (world (opening []) [] (answer ∷ Refused error.PrintsExhausted ∷ []))) ≡ tells (Failed error.PrintsExhausted 1) (codes "r" ∷ codes "r" ∷ [])
 unfolding outcome_of recursion
 refused = refl
+
+-- if(false && OrderSend(q,r)) {}: no request is sent
+no_request : Checked
+no_request = with_classes (structure (ints ∷ []) ∷ []) (
+  void (of_type (base.Structure 0) ∷ []) (
+    s.If 1 (e.Choose (no' ∷ native natives.OrderSend (var 0 ∷ loc 0 ∷ []) ∷ no' ∷ [])) [] (say 2 (codes "f") ∷ []) ∷ []) ∷ [])
+
+no_request_runs : run no_request 9 ≡ tells done (codes "f" ∷ [])
+unfolding run no_request
+no_request_runs = refl

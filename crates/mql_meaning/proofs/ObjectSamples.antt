@@ -251,3 +251,22 @@ on_structure = with_classes (structure (ints ∷ []) ∷ []) (
 on_structure_runs : run on_structure 9 ≡ tells done (codes "6" ∷ [])
 unfolding run on_structure
 on_structure_runs = refl
+
+-- a method of an interface, through a pointer to the interface; and through a pointer to an object that has gone
+interfaces : Checked
+interfaces = with_classes (class None [] (pure_method 0 ∷ []) 2 ∷ class (Some 0) [] (has 0 3 ∷ []) 4 ∷ []) (
+  void (a_pointer 0 ∷ []) (
+    set 1 (loc 0) (e.Make 1 6 []) ∷
+    virtual 2 0 0 (object (var 0)) ∷
+    does 3 (e.Delete (var 0 ∷ [])) ∷
+    virtual 4 0 0 (object (var 0)) ∷ []) ∷
+  method [] ∷
+  making 0 [] ∷
+  method (say 5 (codes "f") ∷ []) ∷
+  making 1 (s.Block 6 [] (cleanup.Parent 2 ∷ []) ∷ []) ∷
+  making 0 [] ∷
+  making 1 (calls 7 5 (this ∷ []) ∷ []) ∷ [])
+
+interfaces_run : run interfaces 20 ≡ tells (Failed error.InvalidPointer 4) (codes "f" ∷ [])
+unfolding run interfaces
+interfaces_run = refl

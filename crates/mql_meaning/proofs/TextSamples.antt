@@ -1,6 +1,6 @@
 -- Programs of texts, dates and native functions, worked out by hand, and computed.
 use Rattle.std.proofs.Common.{◌≡◌, suc, pos, negsuc, true, [], ◌∷◌, refl}
-use Rattle.std.specs.Prelude.{codes}
+use Rattle.std.specs.Prelude.{codes, replicate}
 use Rattle.fx8.specs.declared.int_kind.IntKind.TheVariants as kind
 use Rattle.natives.specs.declared.native.Native.TheVariants as natives
 use Rattle.mql_mean.specs.declared.value.Value.TheVariants as value
@@ -145,3 +145,30 @@ too_long = body [] (
 too_long_runs : run too_long 9 ≡ tells (Failed error.CellsExhausted 2) (codes "a" ∷ [])
 unfolding run too_long
 too_long_runs = refl
+
+-- StructToTime of that time, and of 30 February
+time_of_fields : Checked
+time_of_fields = with_classes (structure (ints ∷ ints ∷ ints ∷ ints ∷ ints ∷ ints ∷ ints ∷ ints ∷ []) ∷ []) (
+  void (of_type (base.Structure 0) ∷ []) (
+    set 1 (field 0 (loc 0)) (int (pos 2020)) ∷
+    set 1 (field 1 (loc 0)) (int (pos 1)) ∷
+    set 1 (field 2 (loc 0)) (int (pos 2)) ∷
+    set 1 (field 3 (loc 0)) (int (pos 1)) ∷
+    set 1 (field 4 (loc 0)) (int (pos 1)) ∷
+    set 1 (field 5 (loc 0)) (int (pos 1)) ∷
+    print 2 (native natives.StructToTime (var 0 ∷ []) ∷ []) ∷
+    set 3 (field 1 (loc 0)) (int (pos 2)) ∷
+    set 3 (field 2 (loc 0)) (int (pos 30)) ∷
+    print 4 (convert (sort.Number kind.Int) (native natives.StructToTime (var 0 ∷ [])) ∷ []) ∷ []) ∷ [])
+
+time_of_fields_run : run time_of_fields 9 ≡ tells done (codes "2020.01.02 01:01:01" ∷ codes "4003" ∷ codes "0" ∷ [])
+unfolding run time_of_fields
+time_of_fields_run = refl
+
+-- a literal that is too long ends where it is evaluated
+literal_too_long : Checked
+literal_too_long = body [] (say 1 (codes "a") ∷ say 2 (replicate 65537 120) ∷ [])
+
+literal_too_long_runs : run literal_too_long 9 ≡ tells (Failed error.CellsExhausted 2) (codes "a" ∷ [])
+unfolding run literal_too_long
+literal_too_long_runs = refl
