@@ -1,6 +1,6 @@
 -- Words for small programs, and how they are run.
-use Rattle.std.proofs.Common.{ℕ, zero, suc, ℤ, pos, Bool, true, false, List, [], ◌∷◌, ◌++◌, Option, Some, None}
-use Rattle.std.specs.Prelude.{map, codes}
+use Rattle.std.proofs.Common.{ℕ, zero, suc, ℤ, pos, Bool, true, false, List, [], ◌∷◌, Option, Some, None}
+use Rattle.std.specs.Prelude.{map}
 use Rattle.fx8.specs.declared.int_kind.IntKind.{IntKind}
 use Rattle.fx8.specs.declared.int_kind.IntKind.TheVariants as kind
 use Rattle.fx8.specs.declared.int_operator.IntOperator.{IntOperator}
@@ -17,10 +17,7 @@ use Rattle.natives.specs.declared.native.Native.{Native}
 use Rattle.natives.specs.declared.native.Native.TheVariants as natives
 use Rattle.mql_mean.specs.Answer.{Answer, Replied}
 use Rattle.mql_mean.specs.declared.host.HostCall.{HostCall}
-use Rattle.mql_mean.specs.declared.host.Reply.{Reply}
-use Rattle.mql_mean.specs.declared.value.Value.{Value}
 use Rattle.mql_mean.specs.declared.value.Value.TheVariants as value
-use Rattle.mql_mean.specs.declared.error.ErrorKind.TheVariants as error
 use Rattle.mql_meaning.specs.declared.types.Base.{Base}
 use Rattle.mql_meaning.specs.declared.types.Base.TheVariants as base
 use Rattle.mql_meaning.specs.declared.types.VarType.{VarType}
@@ -28,11 +25,7 @@ use Rattle.mql_meaning.specs.declared.types.Sort.{Sort}
 use Rattle.mql_meaning.specs.declared.types.Sort.TheVariants as sort
 use Rattle.mql_meaning.specs.declared.operator.Operator.{Operator}
 use Rattle.mql_meaning.specs.declared.operator.Operator.TheVariants as o
-use Rattle.mql_meaning.specs.declared.operator.Bump.{Bump}
-use Rattle.mql_meaning.specs.declared.operator.Bump.TheVariants as bump
-use Rattle.mql_meaning.specs.declared.operator.UnaryOperator.TheVariants as un
 use Rattle.mql_meaning.specs.declared.tree.Callee.TheVariants as callee
-use Rattle.mql_meaning.specs.declared.tree.Cleanup.{Cleanup}
 use Rattle.mql_meaning.specs.declared.tree.Class.{Class}
 use Rattle.mql_meaning.specs.declared.tree.Method.{Method}
 use Rattle.mql_meaning.specs.declared.tree.Role.{Role}
@@ -46,7 +39,7 @@ use Rattle.mql_meaning.specs.declared.tree.Entries.{Entries}
 use Rattle.mql_meaning.specs.declared.tree.Checked.{Checked}
 use Rattle.mql_meaning.specs.declared.tree.Entry.{Entry}
 use Rattle.mql_meaning.specs.declared.tree.Entry.TheVariants as entry
-use Rattle.mql_meaning.specs.Changes.{Ended, Returned, Failed, Exhausted}
+use Rattle.mql_meaning.specs.Changes.{Ended, Returned}
 use Rattle.mql_meaning.specs.Runs.{World, world, ◌>>=◌, ◌>>◌, pure, halt, change, spend, choose}
 use Rattle.mql_meaning.specs.Calls.{ask}
 use Rattle.std.specs.Fmt.{digits}

@@ -1,5 +1,5 @@
 -- Each part of a program is a talk.
-use Rattle.std.proofs.Common.{◌≡◌, ℕ, zero, suc, ℤ, List, [], ◌∷◌, ◌++◌, refl, ap, ◌∙◌, Bool, true, false, Option, Some, None}
+use Rattle.std.proofs.Common.{◌≡◌, ℕ, zero, suc, List, [], ◌∷◌, ◌++◌, refl, ap, ◌∙◌, Bool, true, false, Option, Some, None}
 use Rattle.std.specs.Prelude.{slice_get}
 use Rattle.mql_mean.specs.declared.value.Value.{Value}
 use Rattle.mql_mean.specs.declared.host.HostCall.{HostCall}
@@ -18,14 +18,14 @@ use Rattle.mql_meaning.specs.declared.tree.Function.{Function}
 use Rattle.mql_meaning.specs.declared.tree.Expression.{Expression, Constant, Apply', Choose', Call', Native', Make', Delete', After', Named', Row_of-Expression, end_of-Expression, more_of-Expression}
 use Rattle.mql_meaning.specs.declared.tree.Statement.{Statement, Evaluate, Reset, Return, Break, Continue, If', Loop', Switch', Block', Row_of-Statement, end_of-Statement, more_of-Statement}
 use Rattle.mql_meaning.specs.Changes.{Ended, Failed, Exhausted, Stopped, Stuck, Out, Done, Over as Left, Change, line_of, top}
-use Rattle.mql_meaning.specs.Runs.{world, Go, End, Act, bind, ◌>>=◌, ◌>>◌, pure, halt, in_run, change, spend, choose}
+use Rattle.mql_meaning.specs.Runs.{world, Act, bind, ◌>>=◌, ◌>>◌, pure, halt, in_run, change, spend, choose}
 use Rattle.mql_meaning.specs.Operands.{Operand, Val, At}
-use Rattle.mql_meaning.specs.Natives.{Argument, NativeDone, computes, whole}
-use Rattle.mql_meaning.specs.References.{cells_at, put_at}
-use Rattle.mql_meaning.specs.Calls.{fits, replied, answered, ask, tells, asks, calls_native, runs_native, does_native}
+use Rattle.mql_meaning.specs.Natives.{NativeDone}
+use Rattle.mql_meaning.specs.References.{put_at}
+use Rattle.mql_meaning.specs.Calls.{fits, replied, ask, tells, asks, calls_native, runs_native, does_native}
 use Rattle.mql_meaning.specs.Expressions.{Call, is_void, must_give, destroys, deletes_object, deletes, evaluates, operands, chooses, picks, lets_go, operand_of, test_of, let_go}
 use Rattle.mql_meaning.specs.Statements.{Flow, Next, Broke, Continued, Gave, on_next, on_turn, at_line, round, turns, loops, ends_object, cleans, closes, leads, does, does_row, does_from, does_all}
-use Rattle.mql_meaning.specs.Means.{given, runs_body, call_of, event, event_arguments, runs, outcome, meaning}
+use Rattle.mql_meaning.specs.Means.{given, runs_body, call_of, event, event_arguments, runs, outcome}
 use Rattle.mql_meaning.specs.Talk.{Talk, Gives, Over, Asks, hear, MeansTalks}
 
 -- a part of a program is a talk, for every number of steps and store

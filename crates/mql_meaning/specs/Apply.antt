@@ -1,13 +1,13 @@
 -- Operators on operands: variables, fields, elements, objects, assignments (MQL5 Reference, Language Basics,
 -- Operations and Expressions).
-use Rattle.std.specs.Prelude.{ℕ, Bool, List, [], ◌∷◌}
+use Rattle.std.specs.Prelude.{List}
 use Rattle.mql_mean.specs.declared.value.Value.{Value}
 use Rattle.mql_meaning.specs.declared.operator.Operator.{Operator}
 use Rattle.mql_meaning.specs.declared.operator.Operator.TheVariants as operator
 use Rattle.mql_meaning.specs.declared.place.Place.{Place}
 use Rattle.mql_meaning.specs.declared.place.Root.TheVariants as root
 use Rattle.mql_meaning.specs.declared.tree.Class.{Class}
-use Rattle.mql_meaning.specs.Changes.{Change, ◌>>=◌, ◌>>◌, give}
+use Rattle.mql_meaning.specs.Changes.{Change, ◌>>=◌, give}
 use Rattle.mql_meaning.specs.Places.{read, write, index, pointed, pointer_of, local_place, this_place, field_place, at_root}
 use Rattle.mql_meaning.specs.Objects.{cast}
 use Rattle.mql_meaning.specs.Operands.{Operand, Val, At, a_value, a_place, none, on_one, on_two}

@@ -1,14 +1,13 @@
 -- Functions of arrays (MQL5 Reference, Array Functions). They go by storage: a series flag changes indexing
 -- alone.
-use Rattle.std.specs.Prelude.{ℕ, zero, suc, ◌+◌, ◌-◌, ◌*◌, ◌/◌, ◌==◌, nat_le, nat_lt, int_lt, int_le, Bool, true, false, List, [], ◌∷◌, ◌++◌, length, take, drop, replicate, map, ℤ, pos, negsuc, Option, Some, None}
-use Rattle.fx8.specs.declared.int_kind.IntKind.TheVariants as kind
+use Rattle.std.specs.Prelude.{ℕ, zero, suc, ◌+◌, ◌-◌, ◌*◌, ◌/◌, nat_lt, int_le, Bool, true, false, List, [], ◌∷◌, ◌++◌, length, take, drop, replicate, ℤ, pos, Option, Some, None}
 use Rattle.mql_mean.specs.declared.value.Value.{Value, out-Value}
 use Rattle.mql_mean.specs.declared.value.Value.TheVariants as value
 use Rattle.mql_mean.specs.declared.value.Value.TheOpen.{Value-F}
 use Rattle.mql_meaning.specs.declared.cell.Cell.{Cell, One, Array', Structure', out-Cell, Row_of-Cell, end_of-Cell, more_of-Cell}
 use Rattle.mql_meaning.specs.declared.cell.Cell.TheVariants as cell
 use Rattle.mql_meaning.specs.declared.cell.Cell.TheOpen.{Cell-F}
-use Rattle.mql_meaning.specs.Changes.{Change, ◌>>=◌, ◌>>◌, give, stuck, the, for_each, either, then_some}
+use Rattle.mql_meaning.specs.Changes.{Change, ◌>>=◌, give, the, for_each, either, then_some}
 use Rattle.mql_meaning.specs.Cells.{told, put, items}
 use Rattle.mql_meaning.specs.Places.{value_at}
 use Rattle.mql_meaning.specs.Operators.{convert, sort_of}

@@ -1,8 +1,6 @@
 -- Calls of native functions, and of the world among them (MQL5 Reference, Common Functions; Checkup,
 -- GetLastError).
-use Rattle.std.specs.Prelude.{ℕ, ℤ, pos, zero, suc, ◌==◌, ◌&&◌, ◌-ℤ◌, nat_le, Bool, true, false, List, [], ◌∷◌, ◌++◌, length, Option, Some, None}
-use Rattle.fx8.specs.declared.int_kind.IntKind.{IntKind}
-use Rattle.fx8.specs.declared.int_kind.IntKind.TheVariants as kind
+use Rattle.std.specs.Prelude.{ℕ, pos, ◌&&◌, ◌-ℤ◌, nat_le, Bool, true, false, List, [], ◌∷◌, ◌++◌, length, Option, Some, None}
 use Rattle.fx8.specs.Integers.{wrapped, is_zero}
 use Rattle.fx8.specs.Doubles.{fits_double}
 use Rattle.mql_mean.specs.Answer.{Answer, Replied, Refused}
@@ -24,10 +22,9 @@ use Rattle.natives.specs.Signatures.{signature, error_number}
 use Rattle.mql_meaning.specs.declared.cell.Cell.{Cell, out-Cell}
 use Rattle.mql_meaning.specs.declared.cell.Cell.TheOpen.{Cell-F}
 use Rattle.mql_meaning.specs.declared.place.Place.{Place}
-use Rattle.mql_meaning.specs.declared.store.Store.{Store}
 use Rattle.mql_meaning.specs.Changes.{Change, Failed, Stopped, line_of, top, either, then_some}
-use Rattle.mql_meaning.specs.Runs.{World, world, Go, End, Act, ◌>>=◌, ◌>>◌, pure, halt, change, choose}
-use Rattle.mql_meaning.specs.Cells.{tag, alike, told, put}
+use Rattle.mql_meaning.specs.Runs.{world, End, Act, ◌>>=◌, ◌>>◌, pure, halt, change, choose}
+use Rattle.mql_meaning.specs.Cells.{alike, told, put}
 use Rattle.mql_meaning.specs.Operands.{Operand, Val, At, most_units}
 use Rattle.mql_meaning.specs.References.{cells_at, put_at, points, tells_status}
 use Rattle.mql_meaning.specs.Natives.{Argument, Given, Lent, NativeDone, void_value, whole, computes}
@@ -166,8 +163,8 @@ abbrev pub runs_native : Native → List Operand → Act Value
 runs_native f xs = do
   cs ← change (cells_at (places_in xs))
   choose (asks f)
-    (ask (Some f) (host_call (native_number f) (values_of (arguments xs cs)) cs) (places_in xs) cs)
-    (does_native (places_in xs) cs (computes f (arguments xs cs)))
+      (ask (Some f) (host_call (native_number f) (values_of (arguments xs cs)) cs) (places_in xs) cs)
+      (does_native (places_in xs) cs (computes f (arguments xs cs)))
 
 -- what a call of a native function does
 abbrev pub calls_native : Native → List Operand → Act Value

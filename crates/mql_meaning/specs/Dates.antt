@@ -1,9 +1,8 @@
 -- Days, times of day and their texts (MQL5 Reference, Language Basics, Datetime Type; Date and Time). A
 -- `datetime` is a number of seconds since 1970.01.01 00:00.
-use Rattle.std.specs.Prelude.{ℕ, zero, suc, ◌+◌, ◌-◌, ◌*◌, ◌/◌, ◌%◌, ◌==◌, ◌&&◌, not, nat_lt, Bool, true, false, List, [], ◌∷◌, ◌++◌, ℤ, pos, negsuc, unsigned_abs, Option, Some, None}
+use Rattle.std.specs.Prelude.{ℕ, zero, suc, ◌+◌, ◌-◌, ◌*◌, ◌/◌, ◌%◌, ◌&&◌, nat_lt, Bool, true, false, List, [], ◌∷◌, ◌++◌, ℤ, pos, negsuc, Option, Some, None}
 use Rattle.jiff_core.specs.Calendar.{days_in_year, days_in_month, days_from_civil}
 use Rattle.calendar.specs.Days.{is_day, second}
-use Rattle.mql_meaning.specs.Changes.{either}
 
 -- a day of the calendar; months and days from 1, the day of the year from 0
 pub record Date : Type 0 where
@@ -16,15 +15,17 @@ pub record Date : Type 0 where
 abbrev pub in_month : ℕ → ℕ → ℕ → ℕ → ℕ → Date
 in_month zero year of_year month d = record { year = year; month = month; day = d + 1; day_of_year = of_year }
 in_month (suc months) year of_year month d = elim (nat_lt d (days_in_month (pos year) month)) [
-    true ↦ record { year = year; month = month; day = d + 1; day_of_year = of_year }
-  | false ↦ in_month months year of_year (month + 1) (d - days_in_month (pos year) month) ]
+  | true ↦ record { year = year; month = month; day = d + 1; day_of_year = of_year }
+  | false ↦ in_month months year of_year (month + 1) (d - days_in_month (pos year) month)
+]
 
 -- the day that is so many days after the first day of a year, which is in one of at most so many years
 abbrev pub in_year : ℕ → ℕ → ℕ → Date
 in_year zero year d = in_month 11 year d 1 d
 in_year (suc years) year d = elim (nat_lt d (days_in_year (pos year))) [
-    true ↦ in_month 11 year d 1 d
-  | false ↦ in_year years (year + 1) (d - days_in_year (pos year)) ]
+  | true ↦ in_month 11 year d 1 d
+  | false ↦ in_year years (year + 1) (d - days_in_year (pos year))
+]
 
 -- the day of a day number of the years 1970 to 2999
 abbrev pub date : ℕ → Date
@@ -67,5 +68,6 @@ day_of_week t = (t / 86400 + 4) % 7
 abbrev pub moment : ℕ → ℕ → ℕ → ℕ → ℕ → ℕ → Option ℕ
 moment year month day hour minute sec =
     elim (is_day year month day && nat_lt hour 24 && nat_lt minute 60 && nat_lt sec 60) [
-      true ↦ Some (second (days_from_civil (pos year) month day) (hour * 3600 + minute * 60 + sec))
-    | false ↦ None ]
+      | true ↦ Some (second (days_from_civil (pos year) month day) (hour * 3600 + minute * 60 + sec))
+      | false ↦ None
+    ]

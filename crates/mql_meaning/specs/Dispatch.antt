@@ -1,10 +1,10 @@
 -- Which function runs: virtual calls, destructors; conditions and names of values (MQL5 Reference,
 -- Object-Oriented Programming, Virtual Functions, Polymorphism; Conversion Functions, EnumToString).
-use Rattle.std.specs.Prelude.{ℕ, ◌==◌, Bool, true, false, List, [], ◌∷◌, Option, Some, None, slice_get}
+use Rattle.std.specs.Prelude.{ℕ, ◌==◌, Bool, List, [], ◌∷◌, Option, Some, None, slice_get}
 use Rattle.fx8.specs.declared.int_operator.IntOperator.TheVariants as op
 use Rattle.mql_mean.specs.declared.value.Value.{Value}
 use Rattle.mql_mean.specs.declared.value.Value.TheVariants as value
-use Rattle.mql_mean.specs.declared.error.ErrorKind.TheVariants.{InvalidPointer, PureCall}
+use Rattle.mql_mean.specs.declared.error.ErrorKind.TheVariants.{PureCall}
 use Rattle.mql_meaning.specs.declared.place.Root.{Root}
 use Rattle.mql_meaning.specs.declared.place.Root.TheVariants as root
 use Rattle.mql_meaning.specs.declared.place.Place.{Place}
@@ -13,10 +13,10 @@ use Rattle.mql_meaning.specs.declared.types.Sort.TheVariants as sort
 use Rattle.mql_meaning.specs.declared.tree.Callee.{Callee}
 use Rattle.mql_meaning.specs.declared.tree.Callee.TheVariants as callee
 use Rattle.mql_meaning.specs.declared.tree.Class.{Class}
-use Rattle.mql_meaning.specs.Changes.{Change, ◌>>=◌, ◌>>◌, give, stuck, the, the_store, fail, either, then_some}
+use Rattle.mql_meaning.specs.Changes.{Change, ◌>>=◌, give, stuck, the, the_store, fail, either, then_some}
 use Rattle.mql_meaning.specs.Places.{object, at_root, serial_of}
-use Rattle.mql_meaning.specs.Objects.{is_kind, found, goes_by, living, status_of, end_automatic}
-use Rattle.mql_meaning.specs.Operands.{Operand, Val, At, a_value, a_place, on_one, text}
+use Rattle.mql_meaning.specs.Objects.{is_kind, found, goes_by, living, status_of}
+use Rattle.mql_meaning.specs.Operands.{Operand, Val, a_value, a_place, on_one, text}
 use Rattle.mql_meaning.specs.Operators.{binary, convert, holds, sort_of}
 
 -- the method that is found: a pure one is PureCall, and so is one that the class under construction does not

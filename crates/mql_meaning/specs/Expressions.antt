@@ -1,17 +1,9 @@
 -- What expressions do and give (MQL5 Reference, Language Basics, Operations and Expressions; Function Call;
 -- Object Create and Delete Operators; Virtual Functions). Parts go from left to right, in an assignment the
 -- right side before the place.
-use Rattle.std.specs.Prelude.{ℕ, zero, suc, ◌==◌, not, Bool, true, false, List, [], ◌∷◌, Option, Some, None, slice_get}
-use Rattle.fx8.specs.declared.int_operator.IntOperator.TheVariants as op
+use Rattle.std.specs.Prelude.{ℕ, ◌==◌, not, Bool, true, false, List, [], ◌∷◌}
 use Rattle.mql_mean.specs.declared.value.Value.{Value}
 use Rattle.mql_mean.specs.declared.value.Value.TheVariants as value
-use Rattle.mql_mean.specs.declared.error.ErrorKind.TheVariants.{InvalidPointer, PureCall}
-use Rattle.mql_meaning.specs.declared.place.Root.{Root}
-use Rattle.mql_meaning.specs.declared.place.Root.TheVariants as root
-use Rattle.mql_meaning.specs.declared.place.Place.{Place}
-use Rattle.mql_meaning.specs.declared.store.Object.{Object}
-use Rattle.mql_meaning.specs.declared.tree.Callee.{Callee}
-use Rattle.mql_meaning.specs.declared.tree.Callee.TheVariants as callee
 use Rattle.mql_meaning.specs.declared.tree.Class.{Class}
 use Rattle.mql_meaning.specs.declared.tree.Expression.{Expression, Constant, Apply', Choose', Call', Native', Make', Delete', After', Named', Row_of-Expression, end_of-Expression, more_of-Expression}
 use Rattle.mql_meaning.specs.Changes.{Stuck}

@@ -1,5 +1,5 @@
 -- The format of StringFormat and PrintFormat (MQL5 Reference, Common Functions, PrintFormat).
-use Rattle.std.specs.Prelude.{ℕ, zero, suc, ◌+◌, ◌-◌, ◌*◌, ◌/◌, ◌%◌, ◌==◌, ◌&&◌, ◌||◌, not, nat_lt, nat_le, Bool, true, false, List, [], ◌∷◌, ◌++◌, length, take, drop, take_while, decimal, codes, ℤ, pos, unsigned_abs, Option, Some, None, Result, Ok, Err, cond}
+use Rattle.std.specs.Prelude.{ℕ, zero, suc, ◌+◌, ◌-◌, ◌/◌, ◌%◌, ◌==◌, ◌&&◌, ◌||◌, not, nat_lt, nat_le, Bool, true, false, List, [], ◌∷◌, ◌++◌, length, take, drop, take_while, decimal, codes, ℤ, pos, unsigned_abs, Option, Some, None, Result, Ok, Err}
 use Rattle.fx8.specs.declared.int_kind.IntKind.TheVariants as kind
 use Rattle.fx8.specs.declared.fix_fault.FixFault.{FixFault}
 use Rattle.fx8.specs.Integers.{wrapped}
@@ -62,8 +62,15 @@ abbrev pub lettered : List ℕ → List ℕ → Option ℕ → List ℕ → Opti
 lettered flags width precision [] = None
 lettered flags width precision (u ∷ rest) =
     either (nat_le (length width) 2 && among u (codes "diuxXcsf%"))
-    (Some (record { left = among 45 flags; zeros = among 48 flags; plus = among 43 flags;
-    width = number width; precision = precision; letter = u; rest = rest })) None
+    (Some (record {
+      left = among 45 flags;
+      zeros = among 48 flags;
+      plus = among 43 flags;
+      width = number width;
+      precision = precision;
+      letter = u;
+      rest = rest;
+    })) None
 
 -- the precision: one digit to 8 behind a point
 abbrev pub precise : List ℕ → List ℕ → List ℕ → Option Form
@@ -165,14 +172,18 @@ abbrev pub formatted : ℕ → List ℕ → List Value → Result (List ℕ) Fix
 formatted zero s vs = Ok s
 formatted (suc n) [] vs = Ok []
 formatted (suc n) (u ∷ us) vs = elim (u == 37) [
-    false ↦ before (u ∷ []) (formatted n us vs)
+  | false ↦ before (u ∷ []) (formatted n us vs)
   | true ↦ elim (form us) [
-      None ↦ before (u ∷ []) (formatted n us vs)
+    | None ↦ before (u ∷ []) (formatted n us vs)
     | Some f ↦ elim (f.letter == 37) [
-        true ↦ before (in_width f false [] (37 ∷ [])) (formatted n f.rest vs)
+      | true ↦ before (in_width f false [] (37 ∷ [])) (formatted n f.rest vs)
       | false ↦ elim vs [
-          [] ↦ formatted n f.rest []
-        | v ∷ rest ↦ joined (written f v) (formatted n f.rest rest) ] ] ] ]
+        | [] ↦ formatted n f.rest []
+        | v ∷ rest ↦ joined (written f v) (formatted n f.rest rest)
+      ]
+    ]
+  ]
+]
 
 -- the text of a format with arguments
 abbrev pub format : List ℕ → List Value → Result (List ℕ) FixFault

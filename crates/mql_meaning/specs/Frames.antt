@@ -1,6 +1,6 @@
 -- Calls, locals and globals (MQL5 Reference, Language Basics, Functions; Variables, Visibility Scope and
 -- Lifetime of Variables; Passing Parameters).
-use Rattle.std.specs.Prelude.{ℕ, zero, suc, ◌+◌, ◌-◌, ◌==◌, nat_lt, Bool, true, false, List, [], ◌∷◌, ◌++◌, length, take, map, Option, Some, None, slice_get}
+use Rattle.std.specs.Prelude.{ℕ, ◌+◌, ◌-◌, ◌==◌, nat_lt, Bool, true, false, List, [], ◌∷◌, ◌++◌, length, take, map, Option, Some, None}
 use Rattle.mql_mean.specs.declared.value.Value.{Value}
 use Rattle.mql_mean.specs.declared.error.ErrorKind.TheVariants.{StackOverflow}
 use Rattle.mql_meaning.specs.declared.cell.Cell.{Cell}
@@ -85,7 +85,8 @@ leave = do
   store ← the_store
   becomes (record store {
     frames = take (length store.frames - 1) store.frames;
-    cells = store.cells - held (locals_of (top store)) })
+    cells = store.cells - held (locals_of (top store));
+  })
 
 -- a local begins anew: as zero, and with its object
 abbrev pub reset_one : List Class → VarType → Place → Change (Unit {0})

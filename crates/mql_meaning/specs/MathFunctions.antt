@@ -1,13 +1,13 @@
 -- Functions of numbers (MQL5 Reference, Math Functions; NormalizeDouble). A double is its count of units of
 -- 10^-8.
-use Rattle.std.specs.Prelude.{ℕ, zero, suc, ◌+◌, ◌*◌, ◌/◌, ◌%◌, ◌^◌, ◌==◌, ◌&&◌, nat_le, nat_lt, int_lt, int_rem, Bool, true, false, ℤ, pos, negsuc, neg_ℤ, ◌-ℤ◌, ◌*ℤ◌, unsigned_abs, Option, Some, None, Result, Ok, Err}
+use Rattle.std.specs.Prelude.{ℕ, zero, suc, ◌+◌, ◌*◌, ◌/◌, ◌%◌, ◌^◌, ◌==◌, ◌&&◌, nat_le, int_lt, int_rem, Bool, true, false, ℤ, pos, negsuc, neg_ℤ, ◌*ℤ◌, unsigned_abs, Result, Ok, Err}
 use Rattle.std.specs.Int.{int_div_euclid}
 use Rattle.fx8.specs.declared.fix_fault.FixFault.{FixFault}
 use Rattle.fx8.specs.declared.fix_fault.FixFault.TheVariants as fault
 use Rattle.fx8.specs.Integers.{is_zero}
 use Rattle.fx8.specs.Doubles.{double, product_of, quotient_of}
 use Rattle.mql_mean.specs.declared.error.ErrorKind.TheVariants.{MathDomain}
-use Rattle.mql_meaning.specs.Changes.{Change, ◌>>=◌, ◌>>◌, give, fail, either}
+use Rattle.mql_meaning.specs.Changes.{Change, ◌>>=◌, give, fail, either}
 use Rattle.mql_meaning.specs.Operators.{no_fault}
 
 -- the units of 1 (own)

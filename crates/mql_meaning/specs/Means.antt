@@ -11,11 +11,11 @@ use Rattle.mql_meaning.specs.declared.tree.Entry.TheVariants as entry
 use Rattle.mql_meaning.specs.declared.tree.Function.{Function}
 use Rattle.mql_meaning.specs.Changes.{Ended, Returned, Exhausted, Stuck, Change, give}
 use Rattle.mql_meaning.specs.Runs.{World, Res, Go, End, Act, ◌>>=◌, ◌>>◌, pure, halt, change, spend}
-use Rattle.mql_meaning.specs.Operands.{Operand, Val, At}
+use Rattle.mql_meaning.specs.Operands.{Operand, Val}
 use Rattle.mql_meaning.specs.Frames.{enter, leave, begin}
 use Rattle.mql_meaning.specs.Natives.{void_value}
 use Rattle.mql_meaning.specs.Expressions.{Call}
-use Rattle.mql_meaning.specs.Statements.{Flow, Next, Broke, Continued, Gave, does_all}
+use Rattle.mql_meaning.specs.Statements.{Flow, Next, Gave, does_all}
 
 -- what a function gives: the value of its `return`, or none where its end was reached
 abbrev pub given : Bool → Flow → Act Value

@@ -1,9 +1,7 @@
 -- The native functions that ask no world: what each gives, one line a function (MQL5 Reference; the chapters
 -- stand below). The arguments are those of its parameters, defaults included.
-use Rattle.std.specs.Prelude.{ℕ, ℤ, pos, negsuc, zero, suc, ◌+◌, ◌-◌, ◌*◌, ◌/◌, ◌%◌, ◌==◌, ◌&&◌, not, nat_lt, nat_le, int_lt, is_some, Bool, true, false, List, [], ◌∷◌, ◌++◌, length, take, drop, map, reverse, option_map, unwrap_or, unsigned_abs, Option, Some, None, slice_get, min, Result, Ok, Err}
-use Rattle.fx8.specs.declared.int_kind.IntKind.{IntKind}
+use Rattle.std.specs.Prelude.{ℕ, ℤ, pos, negsuc, ◌-◌, ◌*◌, ◌/◌, ◌%◌, not, nat_le, int_lt, Bool, true, false, List, [], ◌∷◌, length, take, drop, map, unsigned_abs, Option, Some, None, slice_get, min, Result, Ok, Err}
 use Rattle.fx8.specs.declared.int_kind.IntKind.TheVariants as kind
-use Rattle.fx8.specs.declared.int_operator.IntOperator.TheVariants as op
 use Rattle.fx8.specs.declared.fix_fault.FixFault.{FixFault}
 use Rattle.fx8.specs.Integers.{wrapped, is_zero}
 use Rattle.fx8.specs.Operators.{bits}
@@ -13,15 +11,13 @@ use Rattle.mql_mean.specs.declared.value.Value.TheVariants as value
 use Rattle.mql_mean.specs.declared.value.Value.TheOpen.{Value-F}
 use Rattle.mql_meaning.specs.declared.cell.Cell.{Cell, out-Cell}
 use Rattle.mql_meaning.specs.declared.cell.Cell.TheVariants as cell
-use Rattle.mql_meaning.specs.declared.types.Sort.{Sort}
-use Rattle.mql_meaning.specs.declared.types.Sort.TheVariants as sort
 use Rattle.natives.specs.declared.native.Native.{Native}
 use Rattle.natives.specs.declared.native.Native.TheVariants as natives
-use Rattle.mql_meaning.specs.Changes.{Change, ◌>>=◌, ◌>>◌, give, stuck, the, for_each, either, then_some}
+use Rattle.mql_meaning.specs.Changes.{Change, ◌>>=◌, give, stuck, the, for_each, either, then_some}
 use Rattle.mql_meaning.specs.Cells.{put, fields_in}
 use Rattle.mql_meaning.specs.Places.{number_of, value_at}
 use Rattle.mql_meaning.specs.Operands.{text}
-use Rattle.mql_meaning.specs.Operators.{units_of, string_of, no_fault, order, sort_of}
+use Rattle.mql_meaning.specs.Operators.{units_of, string_of, no_fault, order}
 use Rattle.mql_meaning.specs.Dates.{Date, date, has_date, day_of_week, moment}
 use Rattle.mql_meaning.specs.Texts.{whole_text, integer_of, double_of}
 use Rattle.mql_meaning.specs.StringFunctions.{place_in, count_in, part_of, find_from, Counted, replace_in, trimmed_left, trimmed_right, small, capital, with_unit, split, padded, width_of, decimals_of, fixed_text, time_parts}
@@ -136,8 +132,6 @@ abbrev pub with_more : {A : Type 0}
 with_more a f (x ∷ xs) = a x >>= λ u. for_each a_value xs >>= f u
 with_more a f _ = stuck
 
-
-
 -- StringFind: from a place on
 abbrev pub finds : List ℕ → List ℕ → ℕ → Change NativeDone
 finds s part start = gives (found (find_from start part (drop start s)))
@@ -215,11 +209,11 @@ abbrev pub copies : Cell → Cell → ℤ → ℤ → ℤ → Change NativeDone
 copies target source at from count = do
   a ← the (array_of target)
   in_range (whole 0) (place_in from (length (leaves source))) (λ f.
-    in_range (whole 0) (count_in count (length (leaves source) - f)) (λ n.
-    in_range (whole 0) (place_from at) (λ t.
-    in_range (whole 0) (fitting a t n) (λ k.
-    copy_at (rebuilt (either a.dynamic (grown a t k) a)) t (part_of (leaves source) f k) >>= λ c.
-    gives_with (c ∷ []) (whole k)))))
+      in_range (whole 0) (count_in count (length (leaves source) - f)) (λ n.
+      in_range (whole 0) (place_from at) (λ t.
+      in_range (whole 0) (fitting a t n) (λ k.
+      copy_at (rebuilt (either a.dynamic (grown a t k) a)) t (part_of (leaves source) f k) >>= λ c.
+      gives_with (c ∷ []) (whole k)))))
   where
     place_from : ℤ → Option ℕ
     place_from (pos i) = Some i
@@ -240,8 +234,8 @@ abbrev pub extreme : (ℤ → ℤ → Bool) → Cell → ℤ → ℤ → Change 
 extreme better a start count = do
   xs ← the (numbers (leaves a))
   in_range minus_one (place_in start (length xs)) (λ i.
-    in_range minus_one (count_in count (length xs - i)) (λ n.
-    in_range minus_one (best better i (part_of xs i n)) (λ k. gives (whole k))))
+      in_range minus_one (count_in count (length xs - i)) (λ n.
+      in_range minus_one (best better i (part_of xs i n)) (λ k. gives (whole k))))
 
 -- MathAbs, MathMax and MathMin: of integers of one kind, or of doubles
 abbrev pub of_number : (ℤ → ℤ) → Value → Change NativeDone
@@ -291,8 +285,7 @@ abbrev pub from_structure : Value → Change NativeDone
 from_structure v = do
   fields ← the (fields_in (out-Value v))
   in_range (value.Num kind.Datetime (pos 0)) (then_some (naturals (take 6 fields)) named_moment)
-    (λ t. gives (value.Num kind.Datetime (pos t)))
-
+      (λ t. gives (value.Num kind.Datetime (pos t)))
 
 abbrev pub computes : Native → List Argument → Change NativeDone
 -- String Functions; Conversion Functions

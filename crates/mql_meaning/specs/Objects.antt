@@ -15,7 +15,7 @@ use Rattle.mql_meaning.specs.declared.tree.Method.{Method}
 use Rattle.mql_meaning.specs.declared.types.VarType.{VarType}
 use Rattle.mql_meaning.specs.declared.types.Base.{Base}
 use Rattle.mql_meaning.specs.declared.types.Base.TheVariants as base
-use Rattle.mql_meaning.specs.Changes.{Change, ◌>>=◌, ◌>>◌, give, stuck, the, the_store, becomes, fail, must, either, then_some}
+use Rattle.mql_meaning.specs.Changes.{Change, ◌>>=◌, ◌>>◌, give, stuck, the, the_store, becomes, fail, must, either}
 use Rattle.mql_meaning.specs.Cells.{total, zero_of, fields_of}
 use Rattle.mql_meaning.specs.Places.{counts, object_in, write, serial_of}
 
@@ -55,7 +55,9 @@ fresh classes class automatic =
       counts (before.cells + own_cell automatic + total fields)
       store ← the_store
       becomes (record store {
-        heap = store.heap ++ next_object class automatic fields store ∷ []; last = store.last + 1 })
+        heap = store.heap ++ next_object class automatic fields store ∷ [];
+        last = store.last + 1;
+      })
       give (store.last + 1)
 
 -- an object for a variable of object type
@@ -156,7 +158,9 @@ abbrev pub take_away : Object → Change (Unit {0})
 take_away o = do
   store ← the_store
   becomes (record store {
-    heap = without store.heap o.serial; cells = store.cells - (own_cell o.automatic + total o.fields) })
+    heap = without store.heap o.serial;
+    cells = store.cells - (own_cell o.automatic + total o.fields);
+  })
 
 -- whether there is an object that is automatic, and one that is not
 abbrev pub is_automatic : Option Object → Bool

@@ -1,11 +1,11 @@
 -- Operands, and the limit of strings.
-use Rattle.std.specs.Prelude.{ℕ, Bool, true, false, nat_le, List, [], ◌∷◌, length}
+use Rattle.std.specs.Prelude.{ℕ, nat_le, List, [], ◌∷◌, length}
 use Rattle.mql_mean.specs.declared.value.Value.{Value, out-Value}
 use Rattle.mql_mean.specs.declared.value.Value.TheVariants as value
 use Rattle.mql_mean.specs.declared.value.Value.TheOpen.{Value-F}
 use Rattle.mql_mean.specs.declared.error.ErrorKind.TheVariants.{CellsExhausted}
 use Rattle.mql_meaning.specs.declared.place.Place.{Place}
-use Rattle.mql_meaning.specs.Changes.{Change, ◌>>=◌, ◌>>◌, give, stuck, must}
+use Rattle.mql_meaning.specs.Changes.{Change, ◌>>◌, give, stuck, must}
 
 -- what an expression gives: a value, or a place
 pub data Operand : Type 0 where

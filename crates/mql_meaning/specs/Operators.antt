@@ -1,5 +1,5 @@
 -- What operators do to values (MQL5 Reference, Language Basics, Operations and Expressions; Typecasting).
-use Rattle.std.specs.Prelude.{ℕ, ℤ, pos, negsuc, zero, suc, ◌==◌, ◌-ℤ◌, not, int_lt, Bool, true, false, List, [], ◌∷◌, ◌++◌, Option, Some, None, Result, Ok, Err}
+use Rattle.std.specs.Prelude.{ℕ, ℤ, pos, negsuc, zero, ◌==◌, ◌-ℤ◌, not, int_lt, Bool, true, false, List, [], ◌∷◌, ◌++◌, Option, Some, None, Result, Ok, Err}
 use Rattle.fx8.specs.declared.int_kind.IntKind.{IntKind}
 use Rattle.fx8.specs.declared.int_kind.IntKind.TheVariants as kind
 use Rattle.fx8.specs.declared.int_operator.IntOperator.{IntOperator}
@@ -8,7 +8,7 @@ use Rattle.fx8.specs.declared.fix_fault.FixFault.{FixFault}
 use Rattle.fx8.specs.declared.fix_fault.FixFault.TheVariants as fault
 use Rattle.fx8.specs.Integers.{wrapped, truth, is_zero}
 use Rattle.fx8.specs.Operators.{computed}
-use Rattle.fx8.specs.Doubles.{double, sum_of, difference_of, product_of, quotient_of, double_of_whole, whole_of}
+use Rattle.fx8.specs.Doubles.{sum_of, difference_of, product_of, quotient_of, double_of_whole, whole_of}
 use Rattle.mql_mean.specs.declared.value.Value.{Value, out-Value}
 use Rattle.mql_mean.specs.declared.value.Value.TheVariants as value
 use Rattle.mql_mean.specs.declared.value.Value.TheOpen.{Value-F}
@@ -20,7 +20,7 @@ use Rattle.mql_meaning.specs.declared.operator.Bump.TheVariants as bump
 use Rattle.mql_meaning.specs.declared.operator.UnaryOperator.{UnaryOperator}
 use Rattle.mql_meaning.specs.declared.operator.UnaryOperator.TheVariants as unary
 use Rattle.mql_meaning.specs.declared.place.Place.{Place}
-use Rattle.mql_meaning.specs.Changes.{Change, ◌>>=◌, ◌>>◌, give, stuck, the, fail, either, then_some}
+use Rattle.mql_meaning.specs.Changes.{Change, ◌>>=◌, ◌>>◌, give, stuck, the, fail, either}
 use Rattle.mql_meaning.specs.Places.{read, write, number_of, serial_of}
 use Rattle.mql_meaning.specs.Operands.{text}
 use Rattle.mql_meaning.specs.Texts.{number_text, integer_of, double_of}

@@ -115,8 +115,10 @@ with_fields (o ∷ os) serial f =
 abbrev pub set_base : Root → (Cell → Cell) → Store → Store
 set_base (root.Global g) f store = record store { globals = changed store.globals g f }
 set_base (root.Local frame local) f store =
-    record store { frames = changed store.frames frame
-    (λ (fr : Frame). record fr { locals = changed fr.locals local (with_own f) }) }
+    record store {
+      frames = changed store.frames frame
+          (λ (fr : Frame). record fr { locals = changed fr.locals local (with_own f) });
+    }
 set_base (root.Object serial) f store = record store { heap = with_fields store.heap serial f }
 
 -- the most cells (own)
@@ -244,4 +246,5 @@ set_line line = do
   store ← the_store
   the (top store)
   becomes (record store {
-    frames = changed store.frames (depth store) (λ (f : Frame). record f { line = line }) })
+    frames = changed store.frames (depth store) (λ (f : Frame). record f { line = line });
+  })

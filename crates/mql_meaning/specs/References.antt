@@ -1,12 +1,12 @@
 -- Reference arguments: what stands at places, and what is put there (MQL5 Reference, Passing Parameters).
-use Rattle.std.specs.Prelude.{List, [], ◌∷◌}
+use Rattle.std.specs.Prelude.{List, ◌∷◌}
 use Rattle.mql_mean.specs.declared.value.Value.{Value}
 use Rattle.mql_meaning.specs.declared.cell.Cell.{Cell}
 use Rattle.mql_meaning.specs.declared.place.Place.{Place}
-use Rattle.mql_meaning.specs.Changes.{Change, ◌>>=◌, give, stuck, for_each}
+use Rattle.mql_meaning.specs.Changes.{Change, ◌>>=◌, give, for_each}
 use Rattle.mql_meaning.specs.Places.{cell_at, replace, pointer_of}
 use Rattle.mql_meaning.specs.Objects.{living, status_of}
-use Rattle.mql_meaning.specs.Operands.{Operand, Val, At, on_one, a_value, a_place}
+use Rattle.mql_meaning.specs.Operands.{Operand, on_one, a_value, a_place}
 use Rattle.mql_meaning.specs.Natives.{whole}
 
 -- the cells at places, in order

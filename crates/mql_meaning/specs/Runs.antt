@@ -3,7 +3,7 @@ use Rattle.std.specs.Prelude.{ℕ, zero, suc, Bool, true, false, List}
 use Rattle.mql_mean.specs.Answer.{Answer}
 use Rattle.mql_mean.specs.declared.host.HostCall.{HostCall}
 use Rattle.mql_meaning.specs.declared.store.Store.{Store}
-use Rattle.mql_meaning.specs.Changes.{Ended, Exhausted, Stuck, Out, Done, Over, Change}
+use Rattle.mql_meaning.specs.Changes.{Ended, Exhausted, Out, Done, Over, Change}
 
 -- the store, the calls to the world so far, and the answers that are left
 pub record World : Type 0 where

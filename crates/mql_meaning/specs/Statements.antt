@@ -1,14 +1,13 @@
 -- What statements do (MQL5 Reference, Language Basics, Operators: Compound, Expression, return, if-else,
 -- switch, while, for, do-while, break, continue). A statement puts its line in force first.
-use Rattle.std.specs.Prelude.{ℕ, zero, suc, ◌+◌, ◌-◌, ◌==◌, Bool, true, false, List, [], ◌∷◌, take, drop, Option, Some, None}
+use Rattle.std.specs.Prelude.{ℕ, zero, suc, ◌-◌, ◌==◌, Bool, List, [], ◌∷◌, take, drop}
 use Rattle.mql_mean.specs.declared.value.Value.{Value}
 use Rattle.mql_meaning.specs.declared.types.VarType.{VarType}
 use Rattle.mql_meaning.specs.declared.tree.Class.{Class}
 use Rattle.mql_meaning.specs.declared.tree.Cleanup.{Cleanup}
 use Rattle.mql_meaning.specs.declared.tree.Cleanup.TheVariants as cleanup
-use Rattle.mql_meaning.specs.declared.tree.Expression.{Expression}
 use Rattle.mql_meaning.specs.declared.tree.Statement.{Statement, Evaluate, Reset, Return, Break, Continue, If', Loop', Switch', Block', Row_of-Statement, end_of-Statement, more_of-Statement}
-use Rattle.mql_meaning.specs.Changes.{Exhausted, Stuck, Change, give}
+use Rattle.mql_meaning.specs.Changes.{Exhausted, Stuck}
 use Rattle.mql_meaning.specs.Runs.{Act, ◌>>=◌, ◌>>◌, pure, halt, change, spend, choose}
 use Rattle.mql_meaning.specs.Places.{set_line, pointer_of, local_place, this_place, field_place}
 use Rattle.mql_meaning.specs.Frames.{reset, global_place}

@@ -1,6 +1,6 @@
 -- Functions of strings (MQL5 Reference, String Functions; Conversion Functions). A string is its 16-bit
 -- units.
-use Rattle.std.specs.Prelude.{ℕ, zero, suc, ◌+◌, ◌-◌, ◌*◌, ◌/◌, ◌%◌, ◌^◌, ◌==◌, ◌&&◌, ◌||◌, not, nat_lt, nat_le, bit_and, Bool, true, false, List, [], ◌∷◌, ◌++◌, length, take, drop, take_while, map, reverse, replicate, decimal, ℤ, pos, negsuc, unsigned_abs, Option, Some, None, option_map}
+use Rattle.std.specs.Prelude.{ℕ, zero, suc, ◌+◌, ◌-◌, ◌/◌, ◌%◌, ◌^◌, ◌==◌, ◌&&◌, ◌||◌, not, nat_le, bit_and, Bool, true, false, List, [], ◌∷◌, ◌++◌, length, take, drop, take_while, reverse, replicate, decimal, ℤ, pos, negsuc, unsigned_abs, Option, Some, None}
 use Rattle.fx8.specs.Rounding.{rounded}
 use Rattle.fx8.specs.Doubles.{unit_of_place}
 use Rattle.fx8.specs.Decimals.{sign_text}
@@ -48,8 +48,9 @@ abbrev pub replaced : List ℕ → List ℕ → ℕ → List ℕ → Counted
 replaced part by skip [] = record { count = 0; text = [] }
 replaced part by (suc skip) (u ∷ us) = replaced part by skip us
 replaced part by zero (u ∷ us) = elim (begins part (u ∷ us)) [
-    true ↦ before 1 by (replaced part by (length part - 1) us)
-  | false ↦ before 0 (u ∷ []) (replaced part by 0 us) ]
+  | true ↦ before 1 by (replaced part by (length part - 1) us)
+  | false ↦ before 0 (u ∷ []) (replaced part by 0 us)
+]
 
 -- an empty part stands nowhere
 abbrev pub replace_in : List ℕ → List ℕ → List ℕ → Counted

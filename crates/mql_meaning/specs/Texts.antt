@@ -1,11 +1,10 @@
 -- Values as texts and texts as numbers (MQL5 Reference, Language Basics, Typecasting; Conversion Functions;
 -- Print).
-use Rattle.std.specs.Prelude.{ℕ, zero, suc, ◌+◌, ◌-◌, ◌*◌, ◌/◌, ◌%◌, ◌==◌, ◌&&◌, ◌||◌, not, nat_lt, nat_le, Bool, true, false, List, [], ◌∷◌, ◌++◌, length, take, decimal, codes, ℤ, pos, negsuc, neg_ℤ, unsigned_abs, Option, Some, None}
+use Rattle.std.specs.Prelude.{ℕ, zero, suc, ◌/◌, ◌%◌, ◌==◌, not, Bool, true, false, List, [], ◌∷◌, ◌++◌, length, take, decimal, codes, ℤ, pos, neg_ℤ, unsigned_abs, Option, Some, None}
 use Rattle.fx8.specs.declared.int_kind.IntKind.{IntKind}
 use Rattle.fx8.specs.declared.int_kind.IntKind.TheVariants as kind
 use Rattle.fx8.specs.Integers.{is_zero, wrapped}
 use Rattle.fx8.specs.Operators.{bits}
-use Rattle.fx8.specs.Rounding.{is_below_zero}
 use Rattle.fx8.specs.Decimals.{is_digit, number, double_of_text, text_of, sign_text}
 use Rattle.mql_mean.specs.declared.value.Value.{Value, out-Value}
 use Rattle.mql_mean.specs.declared.value.Value.TheOpen.{Value-F}
