@@ -269,3 +269,16 @@ interfaces = with_classes (class None [] (pure_method 0 ∷ []) 2 ∷ class (Som
 interfaces_run : run interfaces 20 ≡ tells (Failed error.InvalidPointer 4) (codes "f" ∷ [])
 unfolding run interfaces
 interfaces_run = refl
+
+-- a cast of a pointer to an object that has gone: dynamic_cast gives NULL, a strict one is InvalidPointer
+gone : Checked
+gone = with_classes two_classes (
+    void (a_pointer 0 ∷ []) (
+    set 1 (loc 0) (e.Make 1 6 []) ∷
+    does 2 (e.Delete (var 0 ∷ [])) ∷
+    print 3 (convert (sort.Number kind.Bool) (on1 (o.Cast 1 false) (var 0)) ∷ []) ∷
+    does 4 (on1 (o.Cast 1 true) (var 0)) ∷ []) ∷ two_bodies)
+
+gone_runs : run gone 20 ≡ tells (Failed error.InvalidPointer 4) (codes "~B" ∷ codes "~A" ∷ codes "false" ∷ [])
+unfolding run gone two_classes two_bodies
+gone_runs = refl

@@ -232,6 +232,9 @@ pub record Told : Type 0 where
 abbrev pub line_of : HostCall → Option (List ℕ)
 line_of c = printed c.args
 
+abbrev pub call_number : HostCall → ℕ
+call_number c = c.id
+
 abbrev pub told : Outcome → Told
 told r = record { end = r.ended; lines = map line_of r.world.calls }
 

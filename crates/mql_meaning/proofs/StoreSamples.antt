@@ -1,6 +1,6 @@
 -- Programs of arrays, structures, references and globals, worked out by hand, and computed.
 use Rattle.std.proofs.Common.{◌≡◌, pos, negsuc, true, false, [], ◌∷◌, Some, refl}
-use Rattle.std.specs.Prelude.{codes}
+use Rattle.std.specs.Prelude.{codes, map}
 use Rattle.fx8.specs.declared.int_kind.IntKind.TheVariants as kind
 use Rattle.fx8.specs.declared.int_operator.IntOperator.TheVariants as op
 use Rattle.natives.specs.declared.native.Native.TheVariants as natives
@@ -19,7 +19,7 @@ use Rattle.mql_meaning.specs.Changes.{Failed, Stopped}
 use Rattle.mql_meaning.specs.Runs.{world}
 use Rattle.mql_meaning.specs.Frames.{opening}
 use Rattle.mql_meaning.specs.Means.{Outcome}
-use Rattle.mql_meaning.proofs.Programs.{int, txt, yes', on1, on2, loc, glob, rd, var, binary, put, element, field, native, value_call, does, set, print, calls, of_type, array_of, ints, void, taking, giving, structure, no_entries, with_classes, program, body, answers, told, tells, done, outcome_of, run}
+use Rattle.mql_meaning.proofs.Programs.{int, txt, yes', on1, on2, loc, glob, rd, var, binary, put, element, field, native, value_call, does, set, print, calls, of_type, array_of, ints, void, taking, giving, structure, no_entries, with_classes, program, body, answers, told, tells, done, outcome_of, run, first_world, call_number}
 
 -- void cut(int &x[],int &r){ArrayResize(x,0); r=1;}: the element that was lent is not there any more
 reference : Checked
@@ -107,6 +107,11 @@ dimensions = body (array_of (base.Number kind.Int) (2 ∷ 3 ∷ []) ∷ []) (
 dimensions_run : run dimensions 9 ≡ tells done (codes "6" ∷ codes "3" ∷ codes "7" ∷ codes "4003" ∷ codes "0" ∷ [])
 unfolding run dimensions
 dimensions_run = refl
+
+-- what the world was called with: Print three times, the last error once, and Print
+dimensions_calls : map call_number (outcome_of dimensions entry.Tick (pos 0) 9 first_world).world.calls ≡ 49 ∷ 49 ∷ 49 ∷ 112 ∷ 49 ∷ []
+unfolding outcome_of dimensions
+dimensions_calls = refl
 
 -- 1 cell of the array and 9 of its elements are there, the tenth is one too many
 grows : Checked
@@ -216,3 +221,31 @@ quote_runs = refl
 wrong_reply : (outcome_of quote entry.Tick (pos 0) 9 (world (opening []) [] (answers 2))).ended ≡ Stopped
 unfolding outcome_of quote
 wrong_reply = refl
+
+-- arrays of one dimension and of two: sizes, what is dynamic, ZeroMemory, ArrayFree, a copy that grows by whole places
+more_arrays : Checked
+more_arrays = body (
+    array_of (base.Number kind.Int) (0 ∷ []) ∷
+    array_of (base.Number kind.Int) (2 ∷ []) ∷
+    array_of (base.Number kind.Int) (0 ∷ 3 ∷ []) ∷
+    array_of (base.Number kind.Int) (4 ∷ []) ∷ []) (
+    print 1 (
+    native natives.ArrayResize (loc 0 ∷ int (pos 2) ∷ int (pos 0) ∷ []) ∷
+    native natives.ArrayIsDynamic (loc 0 ∷ []) ∷
+    native natives.ArrayIsDynamic (loc 1 ∷ []) ∷ []) ∷
+    set 2 (element (loc 1) (int (pos 1))) (int (pos 4)) ∷
+    does 2 (native natives.ZeroMemory (loc 1 ∷ [])) ∷
+    print 2 (rd (element (loc 1) (int (pos 1))) ∷ []) ∷
+    does 3 (native natives.ArrayFree (loc 0 ∷ [])) ∷
+    print 3 (native natives.ArraySize (loc 0 ∷ []) ∷ []) ∷
+    does 4 (native natives.ArrayFree (loc 1 ∷ [])) ∷
+    set 5 (element (loc 3) (int (pos 3))) (int (pos 9)) ∷
+    print 5 (
+    native natives.ArrayCopy (loc 2 ∷ loc 3 ∷ int (pos 0) ∷ int (pos 0) ∷ int (negsuc 0) ∷ []) ∷
+    native natives.ArraySize (loc 2 ∷ []) ∷
+    rd (element (element (loc 2) (int (pos 1))) (int (pos 0))) ∷ []) ∷
+    print 6 (native natives.ArrayResize (loc 2 ∷ int (pos 3) ∷ int (pos 0) ∷ []) ∷ []) ∷ [])
+
+more_arrays_run : run more_arrays 9 ≡ tells done (codes "2truefalse" ∷ codes "0" ∷ codes "0" ∷ codes "4003" ∷ codes "469" ∷ codes "9" ∷ [])
+unfolding run more_arrays
+more_arrays_run = refl

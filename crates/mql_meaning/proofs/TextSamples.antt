@@ -5,12 +5,14 @@ use Rattle.fx8.specs.declared.int_kind.IntKind.TheVariants as kind
 use Rattle.natives.specs.declared.native.Native.TheVariants as natives
 use Rattle.mql_mean.specs.declared.value.Value.TheVariants as value
 use Rattle.mql_mean.specs.declared.error.ErrorKind.TheVariants as error
+use Rattle.fx8.specs.declared.int_operator.IntOperator.TheVariants as op
+use Rattle.mql_meaning.specs.declared.operator.Operator.TheVariants as o
 use Rattle.mql_meaning.specs.declared.types.Base.TheVariants as base
 use Rattle.mql_meaning.specs.declared.types.Sort.TheVariants as sort
 use Rattle.mql_meaning.specs.declared.tree.Checked.{Checked}
 use Rattle.mql_meaning.specs.declared.tree.Expression.TheVariants as e
 use Rattle.mql_meaning.specs.Changes.{Failed}
-use Rattle.mql_meaning.proofs.Programs.{int, num, dbl, txt, yes', no', loc, rd, var, join, convert, element, field, native, does, set, print, say, of_type, array_of, ints, void, structure, with_classes, body, tells, done, run}
+use Rattle.mql_meaning.proofs.Programs.{int, num, dbl, txt, yes', no', loc, rd, var, join, convert, element, field, native, does, set, print, say, of_type, array_of, ints, void, structure, with_classes, body, tells, done, run, on2}
 
 -- Print(true, 1.0, D'2020.01.02'); a colour; NULL and a joined number
 texts : Checked
@@ -172,3 +174,20 @@ literal_too_long = body [] (say 1 (codes "a") ∷ say 2 (replicate 65537 120) �
 literal_too_long_runs : run literal_too_long 9 ≡ tells (Failed error.CellsExhausted 2) (codes "a" ∷ [])
 unfolding run literal_too_long
 literal_too_long_runs = refl
+
+-- other functions of strings and numbers; strings are compared by units, and NULL is the empty string
+more_natives : Checked
+more_natives = body (of_type base.String ∷ []) (
+    print 1 (native natives.CharToString (num kind.Uchar (pos 65) ∷ []) ∷ native natives.ShortToString (num kind.Ushort (pos 66) ∷ []) ∷ []) ∷
+    set 2 (loc 0) (txt (codes "AbC")) ∷
+    print 2 (native natives.StringToLower (loc 0 ∷ []) ∷ var 0 ∷ native natives.StringLen (var 0 ∷ []) ∷ []) ∷
+    print 3 (native natives.MathMin (int (pos 3) ∷ int (pos 4) ∷ []) ∷ native natives.MathIsValidNumber (dbl (pos 1) ∷ []) ∷ native natives.IsStopped [] ∷ []) ∷
+    does 4 (native natives.Comment (txt (codes "c") ∷ [])) ∷
+    print 5 (
+    on2 (o.Binary op.Less sort.String) (txt (codes "ab")) (txt (codes "b")) ∷
+    on2 (o.Binary op.Equal sort.String) (txt (codes "ab")) (txt (codes "a")) ∷
+    convert sort.String (e.Constant (value.Ptr 0)) ∷ []) ∷ [])
+
+more_natives_run : run more_natives 9 ≡ tells done (codes "AB" ∷ codes "trueabc3" ∷ codes "3truefalse" ∷ codes "truefalse" ∷ [])
+unfolding run more_natives
+more_natives_run = refl

@@ -1,8 +1,9 @@
 -- Calls of native functions, and of the world among them (MQL5 Reference, Common Functions; Checkup,
 -- GetLastError).
-use Rattle.std.specs.Prelude.{ℕ, pos, ◌&&◌, ◌-ℤ◌, nat_le, Bool, true, false, List, [], ◌∷◌, ◌++◌, length, Option, Some, None}
+use Rattle.std.specs.Prelude.{ℕ, ◌+◌, pos, ◌&&◌, ◌-ℤ◌, nat_le, Bool, true, false, List, [], ◌∷◌, ◌++◌, length, Option, Some, None}
 use Rattle.fx8.specs.Integers.{wrapped, is_zero}
 use Rattle.fx8.specs.Doubles.{fits_double}
+use Rattle.mql_mean.specs.Natives.{is_void}
 use Rattle.mql_mean.specs.Answer.{Answer, Replied, Refused}
 use Rattle.mql_mean.specs.declared.host.HostCall.{HostCall}
 use Rattle.mql_mean.specs.declared.host.Reply.{Reply}
@@ -27,11 +28,11 @@ use Rattle.mql_meaning.specs.Runs.{world, End, Act, ◌>>=◌, ◌>>◌, pure, h
 use Rattle.mql_meaning.specs.Cells.{alike, told, put}
 use Rattle.mql_meaning.specs.Operands.{Operand, Val, At, most_units}
 use Rattle.mql_meaning.specs.References.{cells_at, put_at, points, tells_status}
-use Rattle.mql_meaning.specs.Natives.{Argument, Given, Lent, NativeDone, void_value, whole, computes}
+use Rattle.mql_meaning.specs.Natives.{Argument, Given, Lent, NativeDone, whole, computes}
 
 -- the number that the world is called with to set the last error: one past the last native function (own)
 abbrev pub last_error : ℕ
-last_error = 112
+last_error = native_number natives.HistoryDealGetString + 1
 
 -- the native functions that ask the world
 abbrev pub is_world : Evaluation → Bool
@@ -75,7 +76,7 @@ sample simple.String = value.Str []
 
 abbrev pub is_of : ResultType → Value → Bool
 is_of (results.Simple t) v = alike (out-Value (sample t)) (out-Value v)
-is_of results.Void v = alike (out-Value void_value) (out-Value v)
+is_of results.Void v = is_void v
 is_of _ v = false
 
 -- the result that a call gives: of a native function, or of the call that sets the last error
