@@ -6,6 +6,7 @@ mod cell;
 mod law;
 mod operator;
 mod place;
+mod shared;
 mod store;
 mod tree;
 mod types;
@@ -14,6 +15,7 @@ pub use cell::Cell;
 pub use law::is_talk;
 pub use operator::{Bump, Operator, UnaryOperator};
 pub use place::{Place, Root};
+pub use shared::meanings_may_be_shared;
 pub use store::{Frame, Object, SetInput, Slot, Store};
 pub use tree::{
     Callee, Checked, Class, Cleanup, Entries, Entry, Expression, Function, Input, Member, Method,
