@@ -7,8 +7,8 @@ use mql_mean::Value;
 pub enum Cell {
     /// A number, a string or a pointer. A variable of object type holds the serial of its object.
     One(Value),
-    /// An array: whether its size changes, whether it is indexed from its end, one element as it begins, and its
-    /// elements by storage.
+    /// An array: whether its size changes, whether it is indexed from its end, one element as it begins, and
+    /// its elements by storage.
     Array(bool, bool, ItemList<Cell>, ItemList<Cell>),
     /// A structure: its fields.
     Structure(ItemList<Cell>),

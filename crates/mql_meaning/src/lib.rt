@@ -1,5 +1,5 @@
-//! What a checked program of the whole language is, and what it means: its typed tree, its store, and the definitions
-//! of expressions, statements, calls, objects and native functions.
+//! What a checked program of the whole language is, and what it means: its typed tree, its store, and the
+//! definitions of expressions, statements, calls, objects and native functions.
 #![tactic(auto)]
 
 mod cell;

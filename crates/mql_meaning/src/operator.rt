@@ -47,8 +47,8 @@ pub enum Operator {
     PointerOf,
     /// A value and a place, which gets the value: the value.
     Keep,
-    /// A value and a place, which gets its old value with the operator and the value, both taken into the sort, and the
-    /// result taken back: its new value.
+    /// A value and a place, which gets its old value with the operator and the value, both taken into the
+    /// sort, and the result taken back: its new value.
     Update(IntOperator, Sort),
     /// A place, which gets 1 more or less: its new value, or the old one.
     Bump(Bump),
@@ -58,7 +58,7 @@ pub enum Operator {
     Binary(IntOperator, Sort),
     /// A value, taken into the sort.
     Convert(Sort),
-    /// A pointer, taken as one to an object of the class or of a child. Where it points to another object it is an
-    /// error where the cast is strict, else `NULL`.
+    /// A pointer, taken as one to an object of the class or of a child. Where it points to another object it
+    /// is an error where the cast is strict, else `NULL`.
     Cast(u32, bool),
 }

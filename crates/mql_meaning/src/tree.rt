@@ -10,13 +10,13 @@ use natives::Native;
 pub enum Callee {
     /// The function of this number, as typing chose it among overloads.
     Direct(u32),
-    /// The method of this signature (a number for its name and parameter types) that the object's class has, through a
-    /// place of this class.
+    /// The method of this signature (a number for its name and parameter types) that the object's class has,
+    /// through a place of this class.
     Virtual(u32, u32),
 }
 
-/// An expression. Its parts are gone through in their order: those of an assignment are the right side and then the
-/// place.
+/// An expression. Its parts are gone through in their order: those of an assignment are the right side and
+/// then the place.
 #[derive(Drop)]
 pub enum Expression {
     /// A literal, a constant, `NULL`, a default.
@@ -27,14 +27,15 @@ pub enum Expression {
     Choose(ItemList<Expression>),
     /// A call: the place of the object, if it is a method, and the arguments; whether it gives a value.
     Call(Callee, bool, ItemList<Expression>),
-    /// A call of a native function. A part is a place where its parameter is by reference, an array or an object.
+    /// A call of a native function. A part is a place where its parameter is by reference, an array or an
+    /// object.
     Native(Native, ItemList<Expression>),
     /// `new`: an object of a class, its constructor, and the constructor's arguments.
     Make(u32, u32, ItemList<Expression>),
     /// `delete`: the object of a pointer ends. It gives no value.
     Delete(ItemList<Expression>),
-    /// Expressions whose values are let go, and then one. (A structure that a call gives is kept so in a local of its
-    /// own where a field of it is read.)
+    /// Expressions whose values are let go, and then one. (A structure that a call gives is kept so in a
+    /// local of its own where a field of it is read.)
     After(ItemList<Expression>, ItemList<Expression>),
     /// `EnumToString`: the text of the first value that the number equals, else a text and the number.
     Named(ItemList<Text>, ItemList<Value>, Text, ItemList<Expression>),
@@ -58,7 +59,8 @@ pub enum Cleanup {
 pub enum Statement {
     /// An expression whose value is let go.
     Evaluate(u32, Expression),
-    /// Locals, from the first to before the second, begin: as zero, and those of object type with their objects.
+    /// Locals, from the first to before the second, begin: as zero, and those of object type with their
+    /// objects.
     Reset(u32, u32, u32),
     /// With a value or none.
     Return(u32, ItemList<Expression>),
@@ -68,8 +70,8 @@ pub enum Statement {
     If(u32, Expression, ItemList<Statement>, ItemList<Statement>),
     /// `while`, `for` and `do`: whether the first turn has no test, the test, the step, and the body.
     Loop(u32, bool, Expression, ItemList<Expression>, ItemList<Statement>),
-    /// A number, the labels' values and the places in the body where they stand, the place of the `default` or the
-    /// body's end, and the body.
+    /// A number, the labels' values and the places in the body where they stand, the place of the `default`
+    /// or the body's end, and the body.
     Switch(u32, Expression, ItemList<Value>, ItemList<u32>, u32, ItemList<Statement>),
     /// A block, and what is done wherever it is left.
     Block(u32, ItemList<Statement>, ItemList<Cleanup>),
