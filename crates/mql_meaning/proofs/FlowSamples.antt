@@ -114,7 +114,7 @@ at_least_once_3 = refl
 
 -- a function that prints its argument and gives whether it is not 0
 shown : Function
-shown = giving (false ∷ []) (ints ∷ []) (
+shown = giving (of_type (base.Number kind.Bool)) (false ∷ []) (ints ∷ []) (
     print 20 (var 0 ∷ []) ∷
     s.Return 20 (convert (sort.Number kind.Bool) (var 0) ∷ []) ∷ [])
 
@@ -138,7 +138,7 @@ order = record (program (
     void (array_of (base.Number kind.Int) (2 ∷ []) ∷ []) (
     does 1 (on2 (o.Update op.Add (sort.Number kind.Int)) (value_call 1 []) (element (loc 0) (rd (glob 0)))) ∷
     print 2 (rd (element (loc 0) (int (pos 0))) ∷ rd (element (loc 0) (int (pos 1))) ∷ []) ∷ []) ∷
-    giving [] [] (set 5 (glob 0) (int (pos 1)) ∷ s.Return 5 (int (pos 5) ∷ []) ∷ []) ∷ [])) { globals = ints ∷ [] }
+    giving ints [] [] (set 5 (glob 0) (int (pos 1)) ∷ s.Return 5 (int (pos 5) ∷ []) ∷ []) ∷ [])) { globals = ints ∷ [] }
 
 order_runs : told (outcome_of order entry.Tick (pos 0) 9 (world (record (opening []) { globals = cell.One (value.Num kind.Int (pos 0)) ∷ [] }) [] (answers 9))) ≡ tells done (codes "05" ∷ [])
 unfolding outcome_of order
@@ -148,7 +148,7 @@ order_runs = refl
 left_first : Checked
 left_first = program (
     void [] (print 1 (binary op.Subtract (value_call 1 (int (pos 1) ∷ [])) (value_call 1 (int (pos 2) ∷ [])) ∷ []) ∷ []) ∷
-    giving (false ∷ []) (ints ∷ []) (print 9 (var 0 ∷ []) ∷ s.Return 9 (var 0 ∷ []) ∷ []) ∷ [])
+    giving ints (false ∷ []) (ints ∷ []) (print 9 (var 0 ∷ []) ∷ s.Return 9 (var 0 ∷ []) ∷ []) ∷ [])
 
 left_first_runs : run left_first 9 ≡ tells done (codes "1" ∷ codes "2" ∷ codes "-1" ∷ [])
 unfolding run left_first
@@ -158,7 +158,7 @@ left_first_runs = refl
 static_counter : Checked
 static_counter = record (program (
     void [] (print 1 (value_call 1 [] ∷ []) ∷ print 2 (value_call 1 [] ∷ []) ∷ []) ∷
-    giving [] [] (s.Return 5 (on1 (o.Bump bump.MoreFirst) (glob 0) ∷ []) ∷ []) ∷
+    giving ints [] [] (s.Return 5 (on1 (o.Bump bump.MoreFirst) (glob 0) ∷ []) ∷ []) ∷
     void [] [] ∷ [])) { globals = ints ∷ []; entries = record no_entries { start = Some 2; tick = Some 0 } }
 
 static_started : Outcome
@@ -179,8 +179,8 @@ overloads = program (
     print 2 (value_call 4 (dbl (pos 150000000) ∷ []) ∷ []) ∷ []) ∷
     taking (false ∷ []) (ints ∷ []) (say 5 (codes "int") ∷ []) ∷
     taking (false ∷ []) (of_type base.Double ∷ []) (say 6 (codes "double") ∷ []) ∷
-    giving (false ∷ []) (ints ∷ []) (s.Return 7 (binary op.Add (var 0) (var 0) ∷ []) ∷ []) ∷
-    giving (false ∷ []) (of_type base.Double ∷ []) (s.Return 7 (binary_d op.Add (var 0) (var 0) ∷ []) ∷ []) ∷ [])
+    giving ints (false ∷ []) (ints ∷ []) (s.Return 7 (binary op.Add (var 0) (var 0) ∷ []) ∷ []) ∷
+    giving (of_type base.Double) (false ∷ []) (of_type base.Double ∷ []) (s.Return 7 (binary_d op.Add (var 0) (var 0) ∷ []) ∷ []) ∷ [])
 
 overloads_run : run overloads 9 ≡ tells done (codes "int" ∷ codes "double" ∷ codes "6" ∷ codes "3.0" ∷ [])
 unfolding run overloads

@@ -29,9 +29,9 @@ two_classes = class None [] (has 0 1 ∷ []) 2 ∷ class (Some 0) [] (has 0 3 �
 
 two_bodies : List Function
 two_bodies =
-    method (say 2 (codes "A") ∷ []) ∷
+    method 0 (say 2 (codes "A") ∷ []) ∷
     making 0 (say 3 (codes "~A") ∷ []) ∷
-    method (say 4 (codes "B") ∷ []) ∷
+    method 1 (say 4 (codes "B") ∷ []) ∷
     making 1 (s.Block 5 (say 5 (codes "~B") ∷ []) (cleanup.Parent 2 ∷ []) ∷ []) ∷
     making 0 [] ∷
     making 1 (calls 6 5 (this ∷ []) ∷ []) ∷ []
@@ -99,9 +99,9 @@ under_construction = with_classes two_classes (
     void (a_pointer 0 ∷ []) (
     set 1 (loc 0) (e.Make 1 6 []) ∷
     virtual 2 0 0 (object (var 0)) ∷ []) ∷
-    method (say 2 (codes "A") ∷ []) ∷
+    method 0 (say 2 (codes "A") ∷ []) ∷
     making 0 [] ∷
-    method (say 4 (codes "B") ∷ []) ∷
+    method 1 (say 4 (codes "B") ∷ []) ∷
     making 1 [] ∷
     making 0 (virtual 5 0 0 this ∷ []) ∷
     making 1 (calls 6 5 (this ∷ []) ∷ []) ∷ [])
@@ -114,9 +114,9 @@ under_construction_runs = refl
 pure_call : Checked
 pure_call = with_classes (class None [] (pure_method 0 ∷ []) 2 ∷ class (Some 0) [] (has 0 3 ∷ []) 4 ∷ []) (
     void (a_pointer 0 ∷ []) (set 1 (loc 0) (e.Make 1 6 []) ∷ []) ∷
-    method [] ∷
+    method 0 [] ∷
     making 0 [] ∷
-    method (say 4 (codes "B") ∷ []) ∷
+    method 1 (say 4 (codes "B") ∷ []) ∷
     making 1 [] ∷
     making 0 (virtual 5 0 0 this ∷ []) ∷
     making 1 (calls 6 5 (this ∷ []) ∷ []) ∷ [])
@@ -174,7 +174,7 @@ printing_bodies =
 exits : Checked
 exits = with_classes printing (
     void [] (print 2 (value_call 5 [] ∷ []) ∷ []) ∷ printing_bodies ++
-    giving [] (ints ∷ an_object 0 ∷ an_object 1 ∷ []) (
+    giving ints [] (ints ∷ an_object 0 ∷ an_object 1 ∷ []) (
     s.Loop 6 false (binary op.Less (var 0) (int (pos 5))) (on1 (o.Bump bump.MoreAfter) (loc 0) ∷ []) (
     s.Block 7 (
     s.Reset 7 1 2 ∷
@@ -245,7 +245,7 @@ on_structure = with_classes (structure (ints ∷ []) ∷ []) (
     void (of_type (base.Structure 0) ∷ []) (
     calls 1 1 (loc 0 ∷ []) ∷
     print 2 (rd (field 0 (loc 0)) ∷ []) ∷ []) ∷
-    method (set 5 (field 0 this) (int (pos 6)) ∷ []) ∷ [])
+    method 0 (set 5 (field 0 this) (int (pos 6)) ∷ []) ∷ [])
 
 on_structure_runs : run on_structure 9 ≡ tells done (codes "6" ∷ [])
 unfolding run on_structure
@@ -259,9 +259,9 @@ interfaces = with_classes (class None [] (pure_method 0 ∷ []) 2 ∷ class (Som
     virtual 2 0 0 (object (var 0)) ∷
     does 3 (e.Delete (var 0 ∷ [])) ∷
     virtual 4 0 0 (object (var 0)) ∷ []) ∷
-    method [] ∷
+    method 0 [] ∷
     making 0 [] ∷
-    method (say 5 (codes "f") ∷ []) ∷
+    method 1 (say 5 (codes "f") ∷ []) ∷
     making 1 (s.Block 6 [] (cleanup.Parent 2 ∷ []) ∷ []) ∷
     making 0 [] ∷
     making 1 (calls 7 5 (this ∷ []) ∷ []) ∷ [])

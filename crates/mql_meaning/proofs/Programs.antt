@@ -28,8 +28,6 @@ use Rattle.mql_meaning.specs.declared.operator.Operator.TheVariants as o
 use Rattle.mql_meaning.specs.declared.tree.Callee.TheVariants as callee
 use Rattle.mql_meaning.specs.declared.tree.Class.{Class}
 use Rattle.mql_meaning.specs.declared.tree.Method.{Method}
-use Rattle.mql_meaning.specs.declared.tree.Role.{Role}
-use Rattle.mql_meaning.specs.declared.tree.Role.TheVariants as role
 use Rattle.mql_meaning.specs.declared.tree.Expression.{Expression}
 use Rattle.mql_meaning.specs.declared.tree.Expression.TheVariants as e
 use Rattle.mql_meaning.specs.declared.tree.Statement.{Statement}
@@ -168,25 +166,26 @@ an_object k = of_type (base.Object k)
 abbrev pub a_pointer : ℕ → VarType
 a_pointer k = of_type (base.Pointer k)
 
--- functions: void or not, with parameters or without, methods, constructors and destructors
-abbrev pub function : Role → Bool → List Bool → List VarType → Bool → List Statement → Function
-function r method lent locals gives body =
-    record { name = []; role = r; method = method; lent = lent; locals = locals; gives = gives; body = body }
+-- functions: void or with a value of a type, with parameters or without; methods, constructors and destructors of
+-- a class
+abbrev pub function : Option ℕ → Bool → List Bool → List VarType → Option VarType → List Statement → Function
+function class makes lent locals result body =
+    record { name = []; class = class; makes = makes; lent = lent; locals = locals; result = result; body = body }
 
 abbrev pub void : List VarType → List Statement → Function
-void locals body = function role.Plain false [] locals false body
+void locals body = function None false [] locals None body
 
 abbrev pub taking : List Bool → List VarType → List Statement → Function
-taking lent locals body = function role.Plain false lent locals false body
+taking lent locals body = function None false lent locals None body
 
-abbrev pub giving : List Bool → List VarType → List Statement → Function
-giving lent locals body = function role.Plain false lent locals true body
+abbrev pub giving : VarType → List Bool → List VarType → List Statement → Function
+giving result lent locals body = function None false lent locals (Some result) body
 
-abbrev pub method : List Statement → Function
-method body = function role.Plain true [] [] false body
+abbrev pub method : ℕ → List Statement → Function
+method class body = function (Some class) false [] [] None body
 
 abbrev pub making : ℕ → List Statement → Function
-making class body = function (role.Makes class) true [] [] false body
+making class body = function (Some class) true [] [] None body
 
 -- classes and structures
 abbrev pub class : Option ℕ → List VarType → List Method → ℕ → Class

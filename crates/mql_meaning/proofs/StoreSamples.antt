@@ -176,7 +176,7 @@ of_call : Checked
 of_call = with_classes (structure (ints ∷ []) ∷ []) (
     void (of_type (base.Structure 0) ∷ []) (
     print 1 (e.After (put (loc 0) (value_call 1 []) ∷ []) (rd (field 0 (loc 0)) ∷ []) ∷ []) ∷ []) ∷
-    giving [] (of_type (base.Structure 0) ∷ []) (
+    giving (of_type (base.Structure 0)) [] (of_type (base.Structure 0) ∷ []) (
     set 3 (field 0 (loc 0)) (int (pos 8)) ∷
     s.Return 3 (var 0 ∷ []) ∷ []) ∷ [])
 

@@ -1,6 +1,6 @@
 -- Each part of a program is a talk.
 use Rattle.std.proofs.Common.{◌≡◌, ℕ, zero, suc, List, [], ◌∷◌, ◌++◌, refl, ap, ◌∙◌, Bool, true, false, Option, Some, None}
-use Rattle.std.specs.Prelude.{slice_get}
+use Rattle.std.specs.Prelude.{is_some, slice_get}
 use Rattle.mql_mean.specs.declared.value.Value.{Value}
 use Rattle.mql_mean.specs.declared.host.HostCall.{HostCall}
 use Rattle.mql_mean.specs.Answer.{Answer, Replied, Refused}
@@ -273,7 +273,7 @@ body_is classes (Some f) body is xs = bind_is (change_is _) (λ _. spend_is (is 
 call_is : (classes : List Class) (functions : List Function) (d k : ℕ) (xs : List Operand) → IsAct (call_of classes functions d k xs)
 call_is classes functions zero k xs = body_is classes (slice_get functions k) _ (λ f. halt_is Exhausted) xs
 call_is classes functions (suc d) k xs =
-    body_is classes (slice_get functions k) _ (λ f. bind_is (all_is classes (call_of classes functions d) (call_is classes functions d) d f.locals f.gives f.body) (λ flow. bind_is (given_is f.gives flow) (λ v. then_is (change_is _) (pure_is v)))) xs
+    body_is classes (slice_get functions k) _ (λ f. bind_is (all_is classes (call_of classes functions d) (call_is classes functions d) d f.locals (is_some f.result) f.body) (λ flow. bind_is (given_is (is_some f.result) flow) (λ v. then_is (change_is _) (pure_is v)))) xs
 
 runs_talk : (p : Checked) (k : Option ℕ) (xs : List Operand) → IsAct (runs p k xs)
 runs_talk p None xs = record { talk = λ n store. Over Stuck n store; is = λ n store calls answers. refl }

@@ -1,6 +1,6 @@
 -- Calls, locals and globals (MQL5 Reference, Language Basics, Functions; Variables, Visibility Scope and
 -- Lifetime of Variables; Passing Parameters).
-use Rattle.std.specs.Prelude.{ℕ, ◌+◌, ◌-◌, ◌==◌, nat_lt, Bool, true, false, List, [], ◌∷◌, ◌++◌, length, take, map, Option, Some, None}
+use Rattle.std.specs.Prelude.{is_some, ℕ, ◌+◌, ◌-◌, ◌==◌, nat_lt, Bool, true, false, List, [], ◌∷◌, ◌++◌, length, take, map, Option, Some, None}
 use Rattle.mql_mean.specs.declared.value.Value.{Value}
 use Rattle.mql_mean.specs.declared.error.ErrorKind.TheVariants.{StackOverflow}
 use Rattle.mql_meaning.specs.declared.cell.Cell.{Cell}
@@ -15,8 +15,6 @@ use Rattle.mql_meaning.specs.declared.tree.Checked.{Checked}
 use Rattle.mql_meaning.specs.declared.tree.Class.{Class}
 use Rattle.mql_meaning.specs.declared.tree.Function.{Function}
 use Rattle.mql_meaning.specs.declared.tree.Input.{Input}
-use Rattle.mql_meaning.specs.declared.tree.Role.{Role}
-use Rattle.mql_meaning.specs.declared.tree.Role.TheVariants as role
 use Rattle.mql_meaning.specs.declared.types.VarType.{VarType}
 use Rattle.mql_meaning.specs.Changes.{Change, ◌>>=◌, ◌>>◌, give, stuck, the, the_store, becomes, must, either, top, then_some}
 use Rattle.mql_meaning.specs.Cells.{put, weight, total, zero_of}
@@ -49,13 +47,12 @@ held (Own c ∷ ss) = weight c + held ss
 held (Lent p ∷ ss) = held ss
 
 -- the class whose constructor or destructor it is
-abbrev pub made_by : Role → Option ℕ
-made_by role.Plain = None
-made_by (role.Makes class) = Some class
+abbrev pub made_by : Function → Option ℕ
+made_by f = either f.makes f.class None
 
 -- a call's frame at its beginning
 abbrev pub new_frame : Function → Option Place → List Slot → Frame
-new_frame f this ss = record { locals = ss; this = this; makes = made_by f.role; line = 0 }
+new_frame f this ss = record { locals = ss; this = this; makes = made_by f; line = 0 }
 
 -- a call on an object or structure, or on none: its cells are counted, and it has its frame
 abbrev pub enter_with : List Class → Function → Option Place → List Operand → Change (Unit {0})
@@ -77,7 +74,7 @@ abbrev pub enter : List Class → Function → List Operand → Change (Unit {0}
 enter classes f xs = do
   store ← the_store
   must (nat_lt (length store.frames) most_frames) StackOverflow
-  enter_by f.method classes f xs
+  enter_by (is_some f.class) classes f xs
 
 -- a call ends: its frame and its cells are given back
 abbrev pub leave : Change (Unit {0})

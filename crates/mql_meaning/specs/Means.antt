@@ -1,6 +1,6 @@
 -- What a program means by an event (MQL5 Reference, Language Basics, Functions; Event Handling). The only
 -- definition that the compiler, the tester and the headline speak by.
-use Rattle.std.specs.Prelude.{ℕ, ℤ, zero, suc, Bool, true, false, List, [], ◌∷◌, Option, Some, None, slice_get}
+use Rattle.std.specs.Prelude.{is_some, ℕ, ℤ, zero, suc, Bool, true, false, List, [], ◌∷◌, Option, Some, None, slice_get}
 use Rattle.fx8.specs.declared.int_kind.IntKind.TheVariants as kind
 use Rattle.mql_mean.specs.declared.value.Value.{Value}
 use Rattle.mql_mean.specs.declared.value.Value.TheVariants as value
@@ -33,8 +33,8 @@ runs_body classes (Some f) body xs = change (enter classes f xs) >>= λ _. spend
 abbrev pub call_of : List Class → List Function → ℕ → Call
 call_of classes functions zero k xs = runs_body classes (slice_get functions k) (λ f. halt Exhausted) xs
 call_of classes functions (suc d) k xs = runs_body classes (slice_get functions k) (λ (f : Function). do
-  flow ← does_all classes (call_of classes functions d) d f.locals f.gives f.body
-  v ← given f.gives flow
+  flow ← does_all classes (call_of classes functions d) d f.locals (is_some f.result) f.body
+  v ← given (is_some f.result) flow
   change leave
   pure v) xs
 

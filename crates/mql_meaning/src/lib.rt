@@ -19,6 +19,6 @@ pub use shared::meanings_may_be_shared;
 pub use store::{Frame, Object, SetInput, Slot, Store};
 pub use tree::{
     Callee, Checked, Class, Cleanup, Entries, Entry, Expression, Function, Input, Member, Method,
-    Role, Statement,
+    Statement,
 };
 pub use types::{Base, Sort, VarType};

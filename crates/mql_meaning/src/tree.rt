@@ -77,28 +77,20 @@ pub enum Statement {
     Block(u32, ItemList<Statement>, ItemList<Cleanup>),
 }
 
-/// What a function is to its class.
-#[derive(Clone, Copy)]
-pub enum Role {
-    /// No method, or a method that is neither constructor nor destructor.
-    Plain,
-    /// A constructor or destructor of the class of this number.
-    Makes(u32),
-}
-
 /// A function.
 #[derive(Drop)]
 pub struct Function {
     pub name: Text,
-    pub role: Role,
-    /// Whether it works on an object or a structure.
-    pub method: bool,
+    /// The class or structure on whose object it works; none where it works on none.
+    pub class: Option<u32>,
+    /// Whether it is a constructor or the destructor of its class.
+    pub makes: bool,
     /// Which parameters are by reference. Parameters are the first locals.
     pub lent: ItemList<bool>,
     /// The types of its locals by number.
     pub locals: ItemList<VarType>,
-    /// Whether it gives a value.
-    pub gives: bool,
+    /// The type of its value; none where it gives none.
+    pub result: Option<VarType>,
     pub body: ItemList<Statement>,
 }
 
