@@ -3,7 +3,12 @@
 
 mod declaration;
 mod kind;
+mod leaf;
+mod lists;
+mod read_types;
+mod read_values;
 mod statement;
+mod unread;
 mod value;
 
 pub use declaration::{
@@ -11,5 +16,6 @@ pub use declaration::{
     Start, Syntax, Variable, Words,
 };
 pub use kind::{Access, BinaryOperator, ClassKind, Place, StatementKind, Step, UnaryOperator};
+pub use read_values::read_value;
 pub use statement::Statement;
 pub use value::{Operation, TypeUse, Value};
