@@ -48,6 +48,13 @@ typed_front (t ∷ xs) = let s = may stars xs in (Some (record { type = t; point
 unfoldable pub typed : List Part → Option Typed × List Part
 typed xs = if is_typed xs then typed_front xs else (None, xs)
 
+-- type ["*"], among the arguments of a template: all of these parts
+unfoldable pub type_argument : List Part → Option Typed
+type_argument xs =
+    on (must type_words type_forms xs) (λ t.
+    let p = may stars t.1 in
+    ended (record { type = t.0; pointer = p.0 }) p.1)
+
 -- [NAME "::"]
 unfoldable pub scoped : List Part → Option Part × List Part
 scoped [] = (None, [])

@@ -1,5 +1,5 @@
 -- The parts of a node, each with what it is and with a node's number (own).
-use Rattle.std.specs.Prelude.{ℕ, ◌+◌, List, [], ◌∷◌, get_or}
+use Rattle.std.specs.Prelude.{ℕ, ◌+◌, ◌-◌, ◌^◌, min, List, [], ◌∷◌, get_or}
 use Rattle.mql_forms.specs.Numbers.{form_number}
 use Rattle.mql_grammar.specs.Forms.{Head, of_class, of_form}
 use Rattle.mql_grammar.specs.Numbers.{class_number}
@@ -14,20 +14,21 @@ pub record Part : Type 0 where
   pub head : Head
   pub tree : Tree
 
+-- A number of nodes and some more. It stops at the largest number of 32 bits, past those of all trees within
+-- the limits of a file.
+abbrev pub counted : ℕ → ℕ → ℕ
+counted n more = min (n + more) (2 ^ 32 - 1)
+
 -- the number of nodes of a tree: a token is none
 abbrev mutual
   pub nodes : Tree → ℕ
   nodes (Leaf k) = 0
-  nodes (Node' _ row parts) = 1 + nodes_among parts
+  nodes (Node' _ row parts) = nodes_among 1 parts
 
-  pub nodes_among : {m : _} → Row_of-Tree m → ℕ
-  nodes_among end_of-Tree = 0
-  nodes_among (more_of-Tree t ts) = nodes t + nodes_among ts
-
--- the number of nodes of trees
-abbrev pub nodes_of : List Tree → ℕ
-nodes_of [] = 0
-nodes_of (t ∷ ts) = nodes t + nodes_of ts
+  -- a number of nodes, and those of trees
+  pub nodes_among : {m : _} → ℕ → Row_of-Tree m → ℕ
+  nodes_among n end_of-Tree = n
+  nodes_among n (more_of-Tree t ts) = nodes_among (counted n (nodes t)) ts
 
 -- the number of the class of the token at a place; behind the tokens stands the end mark
 unfoldable pub class_at : List Class → ℕ → ℕ
@@ -48,8 +49,8 @@ abbrev pub parts_from : List Class → ℕ → ℕ → List Tree → List Part
 parts_from classes inside next [] = []
 parts_from classes inside next (t ∷ ts) =
     record { at = number_of inside next t; head = head_in classes t; tree = t }
-    ∷ parts_from classes inside (next + nodes t) ts
+    ∷ parts_from classes inside (counted next (nodes t)) ts
 
 -- the parts of the node of a number
 abbrev pub parts_of : List Class → ℕ → List Tree → List Part
-parts_of classes at ts = parts_from classes at (at + 1) ts
+parts_of classes at ts = parts_from classes at (counted at 1) ts

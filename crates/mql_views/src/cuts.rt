@@ -59,7 +59,7 @@ pub(crate) fn split<'a>(at: usize, parts: &'a [Part<'a>]) -> (&'a [Part<'a>], &'
 
 /// The front part, which is one of these, and the parts behind it.
 #[tactic(auto, unfolding(crate::specs::Cuts::must))]
-pub(crate) fn must<'a>(
+pub fn must<'a>(
     wanted: &[Class],
     forms: &[Form],
     parts: &'a [Part<'a>],
@@ -79,7 +79,7 @@ pub(crate) fn must<'a>(
 }
 
 /// The front part, whatever it is, and the parts behind it.
-pub(crate) fn next<'a>(parts: &'a [Part<'a>]) -> Option<(Part<'a>, &'a [Part<'a>])>
+pub fn next<'a>(parts: &'a [Part<'a>]) -> Option<(Part<'a>, &'a [Part<'a>])>
     ensures { option_map cut_seen result ≡ next (seen parts.now) }
 {
     match parted(parts) {
@@ -89,7 +89,7 @@ pub(crate) fn next<'a>(parts: &'a [Part<'a>]) -> Option<(Part<'a>, &'a [Part<'a>
 }
 
 /// The one part that there is.
-pub(crate) fn last<'a>(parts: &'a [Part<'a>]) -> Option<Part<'a>>
+pub fn last<'a>(parts: &'a [Part<'a>]) -> Option<Part<'a>>
     ensures { option_map part_seen result ≡ last (seen parts.now) }
 {
     match parted(parts) {
@@ -103,7 +103,7 @@ pub(crate) fn last<'a>(parts: &'a [Part<'a>]) -> Option<Part<'a>>
 
 /// The parts behind the front one, if it is one of these tokens.
 #[tactic(auto, unfolding(crate::specs::Cuts::sign))]
-pub(crate) fn sign<'a>(wanted: &[Class], parts: &'a [Part<'a>]) -> Option<&'a [Part<'a>]>
+pub fn sign<'a>(wanted: &[Class], parts: &'a [Part<'a>]) -> Option<&'a [Part<'a>]>
     ensures { option_map all result ≡ sign wanted.now (seen parts.now) }
 {
     match parted(parts) {
@@ -120,7 +120,7 @@ pub(crate) fn sign<'a>(wanted: &[Class], parts: &'a [Part<'a>]) -> Option<&'a [P
 
 /// Whether the front part is one of these tokens, and the parts behind it.
 #[tactic(auto, unfolding(crate::specs::Cuts::may))]
-pub(crate) fn may<'a>(wanted: &[Class], parts: &'a [Part<'a>]) -> (bool, &'a [Part<'a>])
+pub fn may<'a>(wanted: &[Class], parts: &'a [Part<'a>]) -> (bool, &'a [Part<'a>])
     ensures { may_seen result ≡ may wanted.now (seen parts.now) }
 {
     match parted(parts) {
@@ -157,7 +157,7 @@ pub(crate) fn may_be<'a>(
 
 /// The parts up to a token, and those behind it.
 #[tactic(auto, unfolding(crate::specs::Cuts::up_to))]
-pub(crate) fn up_to<'a>(
+pub fn up_to<'a>(
     wanted: Class,
     parts: &'a [Part<'a>],
 ) -> Option<(&'a [Part<'a>], &'a [Part<'a>])>
@@ -172,7 +172,7 @@ pub(crate) fn up_to<'a>(
 
 /// All parts up to a token, which is the last.
 #[tactic(auto, unfolding(crate::specs::Cuts::all_to))]
-pub(crate) fn all_to<'a>(wanted: Class, parts: &'a [Part<'a>]) -> Option<&'a [Part<'a>]>
+pub fn all_to<'a>(wanted: Class, parts: &'a [Part<'a>]) -> Option<&'a [Part<'a>]>
     ensures { option_map all result ≡ all_to wanted (seen parts.now) }
 {
     let (front, rest) = up_to(wanted, parts)?;

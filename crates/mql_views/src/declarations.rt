@@ -247,6 +247,19 @@ fn param_typed<'a>(constant: bool, of: Part<'a>, parts: &'a [Part<'a>]) -> Optio
     param_end(constant, Typed { name: of, pointer }, reference, name, rest)
 }
 
+/// A type among the arguments of a template, where the parts are one.
+#[tactic(auto, unfolding(crate::specs::Declarations::type_argument))]
+pub fn read_type_argument<'a>(parts: &'a [Part<'a>]) -> Option<Typed<'a>>
+    ensures { option_map type_seen result ≡ views.type_argument (seen parts.now) }
+{
+    let (name, rest) = must(&TYPES, &[Form::GenericType], parts)?;
+    let (pointer, rest) = may(&STARS, rest);
+    match parted(rest) {
+        None => Some(Typed { name, pointer }),
+        Some(_) => None,
+    }
+}
+
 /// The named parts of a parameter, where the parts are one.
 #[tactic(auto, unfolding(crate::specs::Declarations::param))]
 pub fn read_param<'a>(parts: &'a [Part<'a>]) -> Option<Param<'a>>

@@ -9,11 +9,11 @@ mod part;
 mod statements;
 mod values;
 
-pub use cuts::{parted, piece};
+pub use cuts::{all_to, last, may, must, next, parted, piece, sign, up_to};
 pub use declarations::{
     Body, ClassParts, Enumeration, Enumerator, Function, Param, Parent, Start, Typed, Variable,
     Variables, read_class, read_enumeration, read_enumerator, read_function, read_param,
-    read_variable,
+    read_type_argument, read_variable,
 };
 pub use items::{
     Declaration, Item, Member, Template, Templated, read_item, read_member, read_template,

@@ -1,0 +1,5 @@
+mod Rows
+mod Each
+mod Pieces
+mod Types
+mod Values

@@ -1,0 +1,6 @@
+pub mod Reads
+pub mod Lists
+pub mod Leaves
+pub mod Types
+pub mod Values
+pub mod Seen
