@@ -1,6 +1,6 @@
 -- Which broken rule is told (own): that of the first node in the order of tokens, a node by its first token,
 -- and at it the lowest rule. Of nodes that begin at one token the outer comes first.
-use Rattle.std.specs.Prelude.{ℕ, Bool, true, false, ◌&&◌, ◌||◌, nat_lt, ◌==◌, List, [], ◌∷◌, Option, Some, None, if◌then◌else◌}
+use Rattle.std.specs.Prelude.{ℕ, Bool, ◌&&◌, ◌||◌, nat_lt, ◌==◌, List, [], ◌∷◌, Option, Some, None, if◌then◌else◌}
 use Rattle.mql_syntax.specs.declared.kind.Place.{Place}
 use Rattle.mql_decls.specs.declared.fault.Broken.{Broken}
 

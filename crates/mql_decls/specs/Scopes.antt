@@ -1,5 +1,5 @@
 -- The names of a scope (MQL5 Reference, Variables, Visibility Scope; Functions, Function Overloading).
-use Rattle.std.specs.Prelude.{ℕ, Bool, true, false, ◌||◌, List, [], ◌∷◌, ◌++◌, Option, Some, None, bytes_eq, if◌then◌else◌}
+use Rattle.std.specs.Prelude.{ℕ, Bool, false, ◌||◌, List, [], ◌∷◌, ◌++◌, Some, None, bytes_eq}
 use Rattle.mql_decls.specs.declared.fault.Broken.{Broken}
 use Rattle.mql_decls.specs.declared.scope.Named.{Named}
 use Rattle.mql_decls.specs.Faults.{break_if}

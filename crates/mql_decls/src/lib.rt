@@ -2,7 +2,14 @@
 #![tactic(auto)]
 
 mod fault;
+mod items;
+mod program;
+mod rules;
 mod scope;
+mod types;
+mod walk;
 
 pub use fault::Broken;
+pub use program::first_broken;
 pub use scope::Named;
+pub use types::{Meaning, Sort};

@@ -1,4 +1,4 @@
-use Rattle.std.proofs.Common.{◌≡◌, refl, sym, ap, subst, ◌∙◌, ◌++◌, ◌+◌, [], ◌∷◌, take}
+use Rattle.std.proofs.Common.{refl, sym, ap, subst, ◌∙◌, ◌++◌, [], ◌∷◌, take}
 use Rattle.std.proofs.lemmas.List.{take_more}
 use Rattle.mql_decls.specs.Faults.{told, sooner}
 use Rattle.mql_decls.specs.Scopes.{repeated}

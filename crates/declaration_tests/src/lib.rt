@@ -1,0 +1,5 @@
+//! Tests of the rules of declarations.
+#![tactic(auto)]
+
+#[cfg(test)]
+mod refused;
