@@ -19,7 +19,8 @@ pub record Meant : Type 0 where
 -- the last declaration of a name counts
 abbrev pub meant : List Meant → Names
 meant [] q = None
-meant (m ∷ ms) q = elim (meant ms q) [ Some n ↦ Some n | None ↦ if bytes_eq m.name q then Some m.means else None ]
+meant (m ∷ ms) q =
+    elim (meant ms q) [ Some n ↦ Some n | None ↦ if bytes_eq m.name q then Some m.means else None ]
 
 abbrev pub enumerator_meant : Enumerator → Meant
 enumerator_meant e = record { name = e.name; means = meaning.Member }

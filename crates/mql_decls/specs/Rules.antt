@@ -50,7 +50,8 @@ dimensions names _ = []
 
 -- 15 a parameter without default after one with
 abbrev pub has_default : Param → Bool
-has_default q = elim (q.variable.start) [ start.Zero ↦ false | start.Value v ↦ true | start.Arguments vs ↦ true ]
+has_default q =
+    elim (q.variable.start) [ start.Zero ↦ false | start.Value v ↦ true | start.Arguments vs ↦ true ]
 
 -- a parameter lacks a default, where it is said whether one had a default before
 abbrev pub lacks_after : Bool → List Param → Bool

@@ -117,7 +117,8 @@ abbrev mutual
   pub statement_things : List Name → Statement → List Thing
   statement_things locals (statement.Node' place what own values m row) =
       scopes_of (shares what) (list_among row)
-      ++ (variables_things locals own ++ (flat_map value_things values ++ parts_things (shares what) locals row))
+      ++ (variables_things locals own
+      ++ (flat_map value_things values ++ parts_things (shares what) locals row))
 
   pub parts_things : Bool → List Name → {m : _} → Row_of-Statement m → List Thing
   parts_things shared locals end_of-Statement = []
@@ -127,7 +128,8 @@ abbrev mutual
 -- statements in a list
 abbrev pub list_things : Bool → List Name → List Statement → List Thing
 list_things shared locals [] = []
-list_things shared locals (s ∷ ss) = statement_things locals s ++ list_things shared (behind shared locals s) ss
+list_things shared locals (s ∷ ss) =
+    statement_things locals s ++ list_things shared (behind shared locals s) ss
 
 -- the statements of a function's outermost block, whose scope has the parameters too
 abbrev pub body_parts : Body → List Statement
@@ -165,7 +167,8 @@ abbrev pub enumerator_things : Enumerator → List Thing
 enumerator_things e = elim (e.value) [ None ↦ [] | Some v ↦ value_things v ]
 
 abbrev pub class_things : Names → Class → List Thing
-class_things names c = structure c ∷ scope (map (member_named names) c.members) ∷ flat_map member_things c.members
+class_things names c =
+    structure c ∷ scope (map (member_named names) c.members) ∷ flat_map member_things c.members
 
 abbrev pub item_things : Names → Item → List Thing
 item_things names (item.Group text) = []
@@ -195,4 +198,5 @@ item_named names (item.Class c) = class_named c
 item_named names (item.Enumeration e) = enumeration_named e
 
 abbrev pub things_of : Names → Syntax → List Thing
-things_of names s = program s ∷ scope (flat_map (item_named names) s.items) ∷ flat_map (item_things names) s.items
+things_of names s =
+    program s ∷ scope (flat_map (item_named names) s.items) ∷ flat_map (item_things names) s.items

@@ -1,5 +1,5 @@
--- What names of the program's own scope mean, and types (MQL5 Reference, Data Types). A type is known by what it
--- is and by its name, and by no place in a list.
+-- What names of the program's own scope mean, and types (MQL5 Reference, Data Types). A type is known by what
+-- it is and by its name, and by no place in a list.
 use Rattle.std.specs.Prelude.{Bool, true, false, List, ◌++◌, flat_map, codes, Option, Some, None, if◌then◌else◌}
 use Rattle.fx8.specs.declared.int_kind.IntKind.TheVariants as kind
 use Rattle.mql_spelling.specs.declared.reserved.ReservedWord.{ReservedWord}
@@ -53,7 +53,8 @@ meaning_sort meaning.Other = sort.Unknown
 -- a supplied type is a structure, or another name of `int`
 abbrev pub supplied_sort : Option SuppliedType → Sort
 supplied_sort None = sort.Unknown
-supplied_sort (Some s) = elim (structure_of s) [ None ↦ sort.Simple (simple.Integer kind.Int) | Some t ↦ sort.Structure ]
+supplied_sort (Some s) =
+    elim (structure_of s) [ None ↦ sort.Simple (simple.Integer kind.Int) | Some t ↦ sort.Structure ]
 
 -- the program's own types hide supplied ones
 unfoldable pub own_sort : Names → Name → Sort
@@ -101,4 +102,5 @@ is_defined body.Pure = false
 
 -- how a function is spelled with the types of its parameters, and whether it is only announced
 unfoldable pub form_of : Names → Function → Name
-form_of names f = f.name ++ codes "(" ++ param_keys names f.params ++ (if is_defined f.body then codes ")" else codes ");")
+form_of names f =
+    f.name ++ codes "(" ++ param_keys names f.params ++ (if is_defined f.body then codes ")" else codes ");")

@@ -71,7 +71,8 @@ fn body_parts(body: &Body) -> &[Statement]
 /// What is told of the scope of a function's parameters and of its outermost block.
 fn function_scope_told(alloc: Global, f: &Function) -> Result<Option<Broken>, OutOfMemory>
     ensures { IfOk result (λ b. (names : Names) → b ≡ told_of names (thing.scope
-        (map variable_named (map param_variable f.now.params) ++ flat_map own_names (body_parts f.now.body)) ∷ [])) }
+        (map variable_named (map param_variable f.now.params)
+        ++ flat_map own_names (body_parts f.now.body)) ∷ [])) }
 {
     let named = with_params(alloc, ItemList::new(alloc), f.params.as_slice())?;
     let named = with_statements(alloc, named, body_parts(&f.body))?;

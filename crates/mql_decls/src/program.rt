@@ -30,7 +30,8 @@ fn with_meaning<'a>(
 }
 
 fn with_class<'a>(names: Meanings<'a>, c: &'a Class) -> Result<Meanings<'a>, OutOfMemory>
-    ensures { IfOk result (λ new. (ms : List Meant) → Means names.entry ms → Means new (ms ++ class_meanings c.now)) }
+    ensures { IfOk result (λ new. (ms : List Meant) → Means names.entry ms →
+        Means new (ms ++ class_meanings c.now)) }
 {
     if c.defined {
         with_meaning(names, c.name.as_slice(), Meaning::Structure)
@@ -64,7 +65,8 @@ fn with_enumeration<'a>(
 }
 
 fn with_item<'a>(names: Meanings<'a>, item: &'a Item) -> Result<Meanings<'a>, OutOfMemory>
-    ensures { IfOk result (λ new. (ms : List Meant) → Means names.entry ms → Means new (ms ++ item_meanings item.now)) }
+    ensures { IfOk result (λ new. (ms : List Meant) → Means names.entry ms →
+        Means new (ms ++ item_meanings item.now)) }
 {
     match item {
         Item::Group(_) => Ok(names),

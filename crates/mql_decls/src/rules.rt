@@ -69,7 +69,8 @@ fn later_open(dimensions: &[Dimension]) -> bool
 /// What a variable, a field or a parameter breaks.
 #[tactic(auto, using(crate::proofs::Joined::at_variable))]
 pub(crate) fn variable_told(names: &Meanings<'_>, v: &Variable) -> Option<Broken>
-    ensures { (locals : List (List ℕ)) → result ≡ told_of (meaning names.now) (thing.variable locals v.now ∷ []) }
+    ensures { (locals : List (List ℕ)) →
+        result ≡ told_of (meaning names.now) (thing.variable locals v.now ∷ []) }
 {
     let dimensions = v.dimensions.as_slice();
     let broken = dimensions.len() > 4 || later_open(dimensions);

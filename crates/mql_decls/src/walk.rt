@@ -198,7 +198,8 @@ fn scopes_told(
 
 /// What is told of variables, one after another.
 fn variables_told(names: &Meanings<'_>, variables: &[Variable]) -> Option<Broken>
-    ensures { (locals : List (List ℕ)) → result ≡ told_of (meaning names.now) (variables_things locals variables.now) }
+    ensures { (locals : List (List ℕ)) →
+        result ≡ told_of (meaning names.now) (variables_things locals variables.now) }
 {
     let mut told: Option<Broken> = None;
     for v in variables {

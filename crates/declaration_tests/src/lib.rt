@@ -1,5 +1,0 @@
-//! Tests of the rules of declarations.
-#![tactic(auto)]
-
-#[cfg(test)]
-mod refused;
