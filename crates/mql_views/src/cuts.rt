@@ -157,10 +157,7 @@ pub(crate) fn may_be<'a>(
 
 /// The parts up to a token, and those behind it.
 #[tactic(auto, unfolding(crate::specs::Cuts::up_to))]
-pub fn up_to<'a>(
-    wanted: Class,
-    parts: &'a [Part<'a>],
-) -> Option<(&'a [Part<'a>], &'a [Part<'a>])>
+pub fn up_to<'a>(wanted: Class, parts: &'a [Part<'a>]) -> Option<(&'a [Part<'a>], &'a [Part<'a>])>
     ensures { option_map split_seen result ≡ up_to wanted (seen parts.now) }
 {
     let (front, rest) = split(until(&[wanted], &[], parts), parts);
