@@ -1,6 +1,8 @@
 -- What a ledger keeps goes on being that of its events.
-use Rattle.std.proofs.Common.{◌≡◌, ◌∙◌, suc, ◌+◌, ◌<◌, ◌≤◌, ◌^◌, ◌++◌, append-nil, Bool, true, false, cond, List, [], ◌∷◌, length, take, drop, filter, fold, Option, None, ◌+ℤ◌, FitsSigned, refl, ap, sym, subst, arith, rules}
-use Rattle.std.specs.List.{cons_option}
+use Rattle.std.proofs.Common.{◌≡◌, ◌∙◌, suc, ◌+◌, ◌<◌, ◌≤◌, ◌^◌, ◌++◌, append-nil, Bool, true, false, cond, List, [], ◌∷◌, ℕ, zero, length, take, drop, filter, fold, Option, Some, None, ℤ, pos, ◌+ℤ◌, FitsSigned, refl, ap, sym, subst, arith, rules}
+use Rattle.std.specs.List.{All, cons_option}
+use Rattle.std.specs.Prelude.{IfSome, MatchBool, ⊤}
+use Rattle.std.specs.Option.{option_map}
 use Rattle.std.specs.Int.{w128}
 use Rattle.std.proofs.lemmas.Int.{ints}
 use Rattle.std.proofs.lemmas.List.Sums.{fold-append}
@@ -10,18 +12,22 @@ use Rattle.account.specs.declared.deal.Deal.{Deal}
 use Rattle.account.specs.declared.position.Position.{Position}
 use Rattle.account.specs.declared.totals.Totals.{Totals}
 use Rattle.account.specs.declared.event.Event.{Event}
-use Rattle.account.specs.declared.event.Event.TheVariants.{Added}
+use Rattle.account.specs.declared.event.Event.TheVariants.{Placed, Modified, Removed, Triggered, Added, Stops, Swap}
+use Rattle.market_types.specs.declared.symbol_spec.SymbolSpec.{SymbolSpec}
 use Rattle.account.specs.declared.ledger.Books.{Books}
-use Rattle.account.specs.Keyed.{Rising}
+use Rattle.account.specs.Keyed.{Rising, item, put}
 use Rattle.account.specs.Deals.{total, net, deal_of, deals, trading_deals, balance, profit_of, swap_of, commission_of}
-use Rattle.account.specs.Positions.{positions_after, open_positions, position_ticket}
-use Rattle.account.specs.Statistics.{gain, loss, is_trade, is_profit_trade, is_loss_trade, balance_path}
+use Rattle.account.specs.Positions.{positions_after, open_positions, position_ticket, after_deal, is_balance, with_stops, with_swap}
+use Rattle.account.specs.Statistics.{gain, loss, is_trade, is_profit_trade, is_loss_trade, balance_path, greater}
 use Rattle.account.specs.Totals.{totals_of, totals_after, FitsAfter}
-use Rattle.account.specs.Ranges.{IsWithin}
+use Rattle.account.specs.Ranges.{IsWithin, IsHeld, IsPriced, Floats, HasPrices, KeepsTypes, MayDeal}
+use Rattle.account.specs.StopOut.{PriceList, floating, symbol_margin, total_below, margin_by, margin_of}
 use Rattle.account.specs.Journal.{deposit_deal}
 use Rattle.account.specs.Books.{IsBooks, is_full}
 use Rattle.account.proofs.Running.{totals-more, balance-now, net-fits, fall-fits, length-more}
 use Rattle.account.proofs.Steps.{rising_after}
+use Rattle.account.proofs.Found.{all_put, all_item}
+use Rattle.account.proofs.Bounds.{few_open}
 use Rattle.account.proofs.Conserved.{sums}
 
 -- tickets rise in what is read off events
@@ -49,9 +55,44 @@ still_first (y ∷ ds) x d h = h
 pub trading_more : (spec : AccountSpec) (es : List Event) (d : Deal) → take 1 (deals es) ≡ deposit_deal spec ∷ [] → trading_deals (es ++ Added d ∷ []) ≡ trading_deals es ++ d ∷ []
 trading_more spec es d f = ap (λ (ds : List Deal). drop 1 ds) (deals_more es (Added d)) ∙ behind_first (deals es) (deposit_deal spec) d f
 
+-- an event keeps the types of the numbers of each position
+stops_held : (sl tp : ℤ) (o : Option Position) → IfSome o IsHeld → IfSome (option_map (with_stops sl tp) o) IsHeld
+stops_held sl tp None h = tt
+stops_held sl tp (Some p) h = record { some = h.some; volume = h.volume; price = h.price; swap = h.swap }
+
+swap_held : (amount : ℤ) (o : Option Position) → IfSome o IsHeld → IfSome o (λ p. FitsSigned w128 (p.swap +ℤ amount)) → IfSome (option_map (with_swap amount) o) IsHeld
+swap_held amount None h f = tt
+swap_held amount (Some p) h f = record { some = h.some; volume = h.volume; price = h.price; swap = f }
+
+held_after : (ps : List Position) (e : Event) → All IsHeld ps → KeepsTypes ps e → All IsHeld (positions_after ps e)
+held_after ps (Added d) h k =
+    (elim (is_balance d.kind) as (λ b. MatchBool b ⊤ (MayDeal d (item position_ticket d.position ps)) → All IsHeld (cond b ps (put position_ticket d.position (after_deal d (item position_ticket d.position ps)) ps))) [
+      | true ↦ λ m. h
+      | false ↦ λ m. all_put IsHeld position_ticket d.position _ ps h m.1
+    ]) k
+held_after ps (Stops t sl tp) h k = all_put IsHeld position_ticket t _ ps h (stops_held sl tp (item position_ticket t ps) (all_item IsHeld position_ticket t ps h))
+held_after ps (Swap t amount) h k = all_put IsHeld position_ticket t _ ps h (swap_held amount (item position_ticket t ps) (all_item IsHeld position_ticket t ps h) k)
+held_after ps (Placed o) h k = h
+held_after ps (Modified o) h k = h
+held_after ps (Removed t cause) h k = h
+held_after ps (Triggered t) h k = h
+
+held_more : (es new : List Event) (e : Event) → new ≡ es ++ e ∷ [] → All IsHeld (open_positions es) → KeepsTypes (open_positions es) e → All IsHeld (open_positions new)
+held_more es new e n h k = subst (λ (ps : List Position). All IsHeld ps) (sym (open_more es e) ∙ ap (λ (xs : List Event). open_positions xs) (sym n)) (held_after (open_positions es) e h k)
+
+-- no position binds nothing
+none_below : (specs : List SymbolSpec) (leverage n : ℕ) → total_below (symbol_margin specs leverage []) n ≡ pos 0
+unfolding greater
+none_below specs leverage zero = refl
+none_below specs leverage (suc n) = rw (none_below specs leverage n) refl
+
+pub margin_of_none : (hedging : Bool) (specs : List SymbolSpec) (leverage : ℕ) → FitsSigned w128 (margin_by hedging specs leverage [])
+margin_of_none true specs leverage = rw (none_below specs leverage (length specs)) (omega (arith, ints))
+margin_of_none false specs leverage = omega (arith, ints)
+
 -- after a deal
-pub books_more : (spec : AccountSpec) (old new : Books) (d : Deal) → IsBooks spec old → length (deals old.events.items) < 50000 → new.events.items ≡ old.events.items ++ Added d ∷ [] → new.deals ≡ old.deals ++ d ∷ [] → new.positions.items ≡ positions_after old.positions.items (Added d) → new.totals ≡ totals_after old.totals d → IsBooks spec new
-books_more spec old new d b few e l p t =
+pub books_more : (spec : AccountSpec) (old new : Books) (d : Deal) → IsBooks spec old → length (deals old.events.items) < 50000 → new.events.items ≡ old.events.items ++ Added d ∷ [] → new.deals ≡ old.deals ++ d ∷ [] → new.positions.items ≡ positions_after old.positions.items (Added d) → new.totals ≡ totals_after old.totals d → KeepsTypes (open_positions old.events.items) (Added d) → IsWithin spec (old.events.items ++ Added d ∷ []) → IsBooks spec new
+books_more spec old new d b few e l p t k w =
     let ds : deals new.events.items ≡ deals old.events.items ++ d ∷ [] = ap (λ (es : List Event). deals es) e ∙ deals_more old.events.items (Added d) in
     let n : length (deals old.events.items ++ d ∷ []) ≡ length (deals old.events.items) + 1 = length-more (deals old.events.items) d in
     record {
@@ -61,14 +102,16 @@ books_more spec old new d b few e l p t =
           ∙ ap (λ (xs : List Deal). totals_of spec.deposit xs) (sym (trading_more spec old.events.items d b.first)) ∙ ap (λ (es : List Event). totals_of spec.deposit (trading_deals es)) (sym e);
       first = ap (λ (xs : List Deal). take 1 xs) ds ∙ still_first (deals old.events.items) (deposit_deal spec) d b.first;
       few = rw ds (rw n (omega (arith, few)));
+      each_held = held_more old.events.items new.events.items (Added d) e b.each_held k;
+      margin_fits = subst (λ (es : List Event). FitsSigned w128 (margin_of spec es)) (sym e) w.margin;
     }
 
 no_deal : (es : List Event) (e : Event) → deal_of e ≡ None → deals (es ++ e ∷ []) ≡ deals es
 no_deal es e h = deals_more es e ∙ ap (λ (o : Option Deal). deals es ++ cons_option o []) h ∙ append-nil (deals es)
 
 -- after another event
-pub books_same : (spec : AccountSpec) (old new : Books) (e : Event) → IsBooks spec old → deal_of e ≡ None → new.events.items ≡ old.events.items ++ e ∷ [] → new.deals ≡ old.deals → new.positions.items ≡ positions_after old.positions.items e → new.totals ≡ old.totals → IsBooks spec new
-books_same spec old new e b none ev l p t =
+pub books_same : (spec : AccountSpec) (old new : Books) (e : Event) → IsBooks spec old → deal_of e ≡ None → new.events.items ≡ old.events.items ++ e ∷ [] → new.deals ≡ old.deals → new.positions.items ≡ positions_after old.positions.items e → new.totals ≡ old.totals → KeepsTypes (open_positions old.events.items) e → IsWithin spec (old.events.items ++ e ∷ []) → IsBooks spec new
+books_same spec old new e b none ev l p t k w =
     let ds : deals new.events.items ≡ deals old.events.items = ap (λ (es : List Event). deals es) ev ∙ no_deal old.events.items e none in
     record {
       listed = l ∙ b.listed ∙ sym ds;
@@ -76,6 +119,8 @@ books_same spec old new e b none ev l p t =
       summed = t ∙ b.summed ∙ ap (λ (xs : List Deal). totals_of spec.deposit (drop 1 xs)) (sym ds);
       first = ap (λ (xs : List Deal). take 1 xs) ds ∙ b.first;
       few = rw ds b.few;
+      each_held = held_more old.events.items new.events.items e ev b.each_held k;
+      margin_fits = subst (λ (es : List Event). FitsSigned w128 (margin_of spec es)) (sym ev) w.margin;
     }
 
 net_of_deposit : (spec : AccountSpec) → net (deposit_deal spec) ≡ spec.deposit
@@ -144,3 +189,16 @@ balance_kept spec b h = ap (λ (t : Totals). t.balance) h.summed ∙ balance_is 
 
 pub balance_sums : (spec : AccountSpec) (b : Books) → IsBooks spec b → b.totals.balance ≡ spec.deposit +ℤ (total profit_of (trading_deals b.events.items) +ℤ total swap_of (trading_deals b.events.items) +ℤ total commission_of (trading_deals b.events.items))
 balance_sums spec b h = ap (λ (t : Totals). t.balance) h.summed ∙ balance-now spec.deposit (trading_deals b.events.items) ∙ ap (λ z. spec.deposit +ℤ z) (sums (trading_deals b.events.items))
+
+-- what is kept of open positions
+pub few_held : (spec : AccountSpec) (b : Books) → IsBooks spec b → length b.positions.items ≤ 50000
+few_held spec b h = rw h.held (let n : length (open_positions b.events.items) ≤ length (deals b.events.items) = few_open b.events.items in omega (arith, n, h.few))
+
+pub all_held : (spec : AccountSpec) (b : Books) → IsBooks spec b → All IsHeld b.positions.items
+all_held spec b h = subst (λ (ps : List Position). All IsHeld ps) (sym h.held) h.each_held
+
+all_float : (specs : List SymbolSpec) (prices : PriceList) (ps : List Position) → All IsHeld ps → All (HasPrices prices) ps → All (λ p. FitsSigned w128 (floating specs prices p)) ps → All (Floats specs prices) ps
+all_float specs prices ps h p f = λ k d n. record { held = h k d n; priced = p k d n; fits = f k d n }
+
+pub floats : (spec : AccountSpec) (prices : PriceList) (b : Books) → IsBooks spec b → IsPriced spec prices b.events.items → All (Floats spec.specs prices) b.positions.items
+floats spec prices b h p = subst (λ (ps : List Position). All (Floats spec.specs prices) ps) (sym h.held) (all_float spec.specs prices (open_positions b.events.items) h.each_held p.priced p.floating)

@@ -8,3 +8,6 @@ pub mod Scaling
 pub mod Steps
 pub mod Running
 pub mod Kept
+pub mod Amounts
+pub mod Bounds
+pub mod Choice

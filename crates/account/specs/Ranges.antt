@@ -1,7 +1,8 @@
 -- The ranges of an account's numbers, and what keeps sums within their types.
-use Rattle.std.specs.Prelude.{◌≡◌, ℕ, ◌≤◌, ◌<◌, false, List, length, All, MatchBool, Option, IfSome, is_none, ⊤, FitsSigned, pos, ◌≤ℤ◌, ◌<ℤ◌, ◌+ℤ◌}
+use Rattle.std.specs.Prelude.{◌≡◌, ℕ, ◌≤◌, ◌<◌, false, List, length, All, MatchBool, Option, IfSome, is_none, is_some, true, ⊤, FitsSigned, pos, ◌≤ℤ◌, ◌<ℤ◌, ◌+ℤ◌}
 use Rattle.std.specs.Int.{w64, w128}
 use Rattle.market_types.specs.Ranges.{IsSpec}
+use Rattle.market_types.specs.declared.symbol_spec.SymbolSpec.{SymbolSpec}
 use Rattle.account.specs.declared.account_spec.AccountSpec.{AccountSpec}
 use Rattle.account.specs.declared.deal.Deal.{Deal}
 use Rattle.account.specs.declared.position.Position.{Position}
@@ -9,9 +10,9 @@ use Rattle.account.specs.declared.event.Event.{Event}
 use Rattle.account.specs.declared.event.Event.TheVariants as event
 use Rattle.account.specs.Keyed.{item}
 use Rattle.account.specs.Deals.{total, net, balance, trading_deals}
-use Rattle.account.specs.Positions.{position_ticket, is_balance, dealt, after_deal}
+use Rattle.account.specs.Positions.{position_ticket, is_balance, dealt, after_deal, open_positions}
 use Rattle.account.specs.Statistics.{gain, loss, balance_path}
-use Rattle.account.specs.StopOut.{margin_of}
+use Rattle.account.specs.StopOut.{PriceList, prices_at, floating, equity, margin_of}
 
 -- the numbers of an account are within their ranges
 pub record IsAccount (spec : AccountSpec) : Type 0 where
@@ -78,3 +79,19 @@ pub record IsWithin (spec : AccountSpec) (events : List Event) : Type 0 where
   pub gross_profit : FitsSigned w128 (total gain (trading_deals events))
   pub gross_loss : FitsSigned w128 (total loss (trading_deals events))
   pub balance_dd : FitsSigned w128 (balance_path spec.deposit (trading_deals events)).fall
+
+-- the symbol of a position has prices
+abbrev pub HasPrices : PriceList → Position → Type 0
+HasPrices prices p = is_some (prices_at prices p.symbol) ≡ true
+
+-- a position whose floating profit can be computed: its symbol has prices, and the profit fits
+pub record Floats (specs : List SymbolSpec) (prices : PriceList) (p : Position) : Type 0 where
+  pub held : IsHeld p
+  pub priced : HasPrices prices p
+  pub fits : FitsSigned w128 (floating specs prices p)
+
+-- the symbol of each open position has prices, and no floating profit and no equity leaves 128 bits at them
+pub record IsPriced (spec : AccountSpec) (prices : PriceList) (events : List Event) : Type 0 where
+  pub priced : All (HasPrices prices) (open_positions events)
+  pub floating : All (λ p. FitsSigned w128 (floating spec.specs prices p)) (open_positions events)
+  pub equity : FitsSigned w128 (equity spec.specs prices events)

@@ -7,15 +7,21 @@ ghost use Rattle.account.specs.Positions.{open_positions, positions_after, posit
 ghost use Rattle.account.specs.Keyed.{Rising};
 ghost use Rattle.account.specs.Statistics.{stats};
 ghost use Rattle.account.specs.Totals.{FitsAfter};
-ghost use Rattle.account.specs.Ranges.{IsAccount, IsEventOf, IsWithin, KeepsTypes};
+ghost use Rattle.account.specs.Ranges.{IsAccount, IsEventOf, IsPriced, IsWithin, KeepsTypes};
+ghost use Rattle.account.specs.StopOut.{equity, margin_of, worst};
 ghost use Rattle.account.specs.Journal.{deposit_deal};
 ghost use Rattle.account.specs.Books.{IsBooks, Answers, is_full};
 ghost use Rattle.account.specs.declared.event.Event.TheVariants as event;
 
 use crate::copies::copy_deal;
+use crate::floating::equity_of;
+use crate::margins::margin_by;
 use crate::open_positions::{apply_deal, apply_stops, apply_swap};
+use crate::stop_out::{is_due, least};
 use crate::totals::{Totals, totals_after, totals_of_deposit};
-use crate::{AccountSpec, Deal, DealEntry, DealKind, DealList, DealReason, Event, Position, Stats};
+use crate::{
+    AccountSpec, Deal, DealEntry, DealKind, DealList, DealReason, Event, Position, Prices, Stats,
+};
 use fx8::{Fix8, ItemList, Money, OutOfMemory};
 use std::alloc::Global;
 use std::marker::Model;
@@ -131,6 +137,7 @@ fn add_other(books: &mut Books, spec: &AccountSpec, event: Event) -> Result<(), 
     requires books { IsBooks spec.now books.old }
     requires other { deal_of event ≡ None }
     requires types { KeepsTypes (open_positions books.old.events.items) event }
+    requires within { IsWithin spec.now (books.old.events.items ++ event ∷ []) }
     ensures answers { Answers books.old.events.items event result }
     ensures ok { OnOk result (books.new.events.items ≡ books.old.events.items ++ event ∷ []) }
     ensures err { OnErr result (books.new.events.items ≡ books.old.events.items) }
@@ -181,6 +188,47 @@ fn add(
     match event {
         Event::Added(deal) => add_deal(books, spec, alloc, deal),
         other => add_other(books, spec, other),
+    }
+}
+
+/// The equity: the balance and all floating profits.
+fn equity(books: &Books, spec: &AccountSpec, prices: &Prices) -> Money
+    requires account { IsAccount spec.now }
+    requires books { IsBooks spec.now books.now }
+    requires priced { IsPriced spec.now prices.now books.now.events.items }
+    ensures { result ≡ equity spec.now.specs prices.now books.now.events.items }
+{
+    equity_of(
+        &spec.specs,
+        prices,
+        books.totals.balance,
+        books.positions.as_slice(),
+    )
+}
+
+/// What the open positions bind.
+fn margin(books: &Books, spec: &AccountSpec) -> Money
+    requires account { IsAccount spec.now }
+    requires books { IsBooks spec.now books.now }
+    ensures { result ≡ margin_of spec.now books.now.events.items }
+{
+    margin_by(spec, books.positions.as_slice())
+}
+
+/// The position that stop-out closes, where one is due.
+fn worst(books: &Books, spec: &AccountSpec, prices: &Prices) -> Option<u64>
+    requires account { IsAccount spec.now }
+    requires books { IsBooks spec.now books.now }
+    requires priced { IsPriced spec.now prices.now books.now.events.items }
+    ensures { result ≡ worst spec.now prices.now books.now.events.items }
+{
+    let equity = equity(books, spec, prices);
+    if !is_due(spec.stop_out, equity, margin(books, spec)) {
+        return None;
+    }
+    match least(&spec.specs, prices, books.positions.as_slice()) {
+        Some(position) => Some(position.ticket),
+        None => None,
     }
 }
 
@@ -263,6 +311,32 @@ impl Ledger {
             +ℤ total commission_of (trading_deals self.now.events)) }
     {
         self.books.totals.balance
+    }
+
+    /// The equity: the balance and all floating profits, at the last loud Bid for a buy and Ask for a sell
+    /// (MetaTrader 5 Help, Margin Calculation).
+    pub fn equity(&self, prices: &Prices) -> Money
+        requires { IsPriced self.now.spec prices.now self.now.events }
+        ensures { result ≡ equity self.now.spec.specs prices.now self.now.events }
+    {
+        equity(&self.books, &self.spec, prices)
+    }
+
+    /// What the open positions bind: under hedging, of each symbol the greater of the sums of both sides
+    /// (MetaTrader 5 Help, Margin Calculation).
+    pub fn margin(&self) -> Money
+        ensures { result ≡ margin_of self.now.spec self.now.events }
+    {
+        margin(&self.books, &self.spec)
+    }
+
+    /// The ticket of the position that stop-out closes, that of least floating profit and at a tie of the
+    /// lowest ticket; `None` exactly where stop-out closes nothing (MetaTrader 5 Help, Stop Out).
+    pub fn worst(&self, prices: &Prices) -> Option<u64>
+        requires { IsPriced self.now.spec prices.now self.now.events }
+        ensures { result ≡ worst self.now.spec prices.now self.now.events }
+    {
+        worst(&self.books, &self.spec, prices)
     }
 
     /// The statistics (MQL5 Reference, ENUM_STATISTICS), with this greatest fall of the equity.

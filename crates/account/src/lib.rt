@@ -5,14 +5,17 @@ mod account_spec;
 mod copies;
 mod deal;
 mod event;
+mod floating;
 mod laws;
 mod ledger;
+mod margins;
 mod money;
 mod open_positions;
 mod order;
 mod position;
 mod prices;
 mod stats;
+mod stop_out;
 mod totals;
 
 pub use account_spec::AccountSpec;

@@ -53,7 +53,7 @@ fn net(deal: &Deal) -> Money
 }
 
 /// A sum of amounts.
-fn plus(one: Money, other: Money) -> Money
+pub(crate) fn plus(one: Money, other: Money) -> Money
     requires { FitsSigned w128 (one +ℤ other) }
     ensures { result ≡ one +ℤ other }
 {
@@ -70,7 +70,7 @@ fn less(one: Money, other: Money) -> Money
 
 /// The greater of two amounts.
 #[tactic(auto, unfolding(crate::specs::Statistics::greater))]
-fn greater(one: Money, other: Money) -> Money
+pub(crate) fn greater(one: Money, other: Money) -> Money
     ensures { result ≡ greater one other }
 {
     if one < other { other } else { one }

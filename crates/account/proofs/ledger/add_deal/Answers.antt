@@ -24,4 +24,4 @@ returns-clause-books c =
     (c.push_event.ensures ∙ ap (λ (es : List Event). es ++ event.Added c.args.deal ∷ []) c.reserve.ensures.items)
     (of_ok c.push.result c.is_err-3.result _ c.is_err-3.ensures.value c.if-is_err-3.false c.push.ensures.ok ∙ ap (λ (d : Deal). c.args.books.now.deals ++ d ∷ []) c.in-Ok.ensures)
     (c.apply_deal.ensures.items ∙ ap (λ (ps : List Position). positions_after ps (event.Added c.in-Ok-copy_deal.opening)) c.reserve-2.ensures.items ∙ ap (λ (d : Deal). positions_after c.args.books.now.positions.items (event.Added d)) c.in-Ok-copy_deal.ensures)
-    c.totals_after-books.ensures
+    c.totals_after-books.ensures c.requires.types c.requires.within

@@ -19,4 +19,4 @@ pub returns-clause-books : goal.returns-clause-books
 returns-clause-books c =
     books_same c.args.spec.now c.args.books.now _ c.args.event c.requires.books c.requires.other
     (c.push_event.ensures ∙ ap (λ (es : List Event). es ++ c.args.event ∷ []) c.reserve.ensures.items)
-    refl c.apply_other.ensures refl
+    refl c.apply_other.ensures refl c.requires.types c.requires.within
