@@ -26,7 +26,8 @@ pub use laws::{balance_is_sums, volumes_are_sums};
 pub use ledger::{Ledger, LedgerFault};
 pub use money::{commission, margin, portion, profit, weighted_price};
 pub use open_positions::{
-    apply_deal, apply_stops, apply_swap, is_balance, is_buy, is_closed_by, look_up, same_side,
+    apply_deal, apply_stops, apply_swap, apply_to_open, is_balance, is_buy, is_closed_by, look_up,
+    same_side,
 };
 pub use order::{Order, OrderKind, OrderTime};
 pub use position::Position;

@@ -285,6 +285,22 @@ pub fn apply_deal(positions: &mut Vec<Position>, deal: Deal)
     }
 }
 
+/// What a deal makes of a position that is open. It takes no memory, and no room in the list.
+pub fn apply_to_open(positions: &mut Vec<Position>, deal: &Deal)
+    requires rising { Rising position_ticket positions.old.items }
+    requires open { is_some (item position_ticket deal.now.position positions.old.items) ≡ true }
+    requires types { KeepsTypes positions.old.items (event.Added deal.now) }
+    ensures items { positions.new.items ≡ positions_after positions.old.items (event.Added deal.now) }
+    ensures rising { Rising position_ticket positions.new.items }
+{
+    if is_balance(deal.kind) {
+        return;
+    }
+    if let Some(i) = found(positions, deal.position) {
+        deal_at(positions, i, deal);
+    }
+}
+
 /// Sets the stops of the position at a place.
 fn stop_at(positions: &mut Vec<Position>, i: usize, sl: Fix8, tp: Fix8)
     requires { i < length positions.old.items }

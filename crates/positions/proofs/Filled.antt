@@ -1,5 +1,5 @@
 -- What a call of `fill` leaves.
-use Rattle.std.proofs.Common.{◌≡◌, ◌∙◌, ℕ, ◌++◌, Bool, true, false, cond, List, [], ◌∷◌, fold, Option, Some, None, Result, Ok, Err, ℤ, pos, ◌+ℤ◌, ◌<ℤ◌, FitsSigned, refl, ap, sym, subst, rules, All, is_none, int_lt}
+use Rattle.std.proofs.Common.{◌≡◌, ◌∙◌, ℕ, Bool, true, false, cond, List, fold, Option, Some, None, ℤ, pos, ◌+ℤ◌, ◌<ℤ◌, FitsSigned, refl, ap, sym, subst, All, is_none, int_lt}
 use Rattle.std.specs.Prelude.{IfSome, MatchBool}
 use Rattle.std.specs.Bool.{⊤}
 use Rattle.std.specs.Int.{w64, w128}
@@ -9,15 +9,13 @@ use Rattle.account.specs.declared.deal.Deal.{Deal}
 use Rattle.account.specs.declared.position.Position.{Position}
 use Rattle.account.specs.declared.event.Event.{Event}
 use Rattle.account.specs.declared.event.Event.TheVariants.{Added, Stops, Swap}
-use Rattle.account.specs.Keyed.{item, put, Rising}
+use Rattle.account.specs.Keyed.{item, put}
 use Rattle.account.specs.Positions.{position_ticket, positions_after, is_balance, is_buy, same_side, added, reduced, reversed, dealt, after_deal, with_stops, with_swap}
 use Rattle.account.specs.Ranges.{IsHeld, MayDeal, KeepsTypes}
 use Rattle.account.proofs.Found.{all_put, all_item}
 use Rattle.positions.specs.declared.fill.Fill.{Fill}
-use Rattle.positions.specs.declared.fill.FillFault.{FillFault}
-use Rattle.positions.specs.declared.fill.FillFault.TheVariants as fault
 use Rattle.positions.specs.declared.acts.Change.{Change}
-use Rattle.positions.specs.Fills.{kind_of, deal_on, levels_of, stops_event, events_on, met, refusal, filled, filled_or, Leaves, MayAdd}
+use Rattle.positions.specs.Fills.{deal_on, levels_of, stops_event, met, MayAdd}
 use Rattle.positions.specs.Acts.{IsOpen, change_events, differing}
 use Rattle.positions.specs.declared.fill.Levels.{Levels}
 use Rattle.positions.proofs.Filling.{deal_kind, met_item, may_deal, not_balance}

@@ -1,18 +1,17 @@
 -- What a fill meets, and what it leaves.
-use Rattle.std.proofs.Common.{◌≡◌, ◌∙◌, ℕ, suc, zero, ◌+◌, ◌<◌, ◌≤◌, ◌++◌, Bool, true, false, not, cond, eqb, ltb, List, [], ◌∷◌, length, find, fold, filter, Option, Some, None, ℤ, pos, neg_ℤ, ◌+ℤ◌, ◌-ℤ◌, ◌<ℤ◌, ◌≤ℤ◌, int_lt, FitsSigned, refl, ap, sym, subst, arith, rules, All}
+use Rattle.std.proofs.Common.{◌≡◌, ◌∙◌, ℕ, Bool, true, false, cond, eqb, ltb, List, [], ◌∷◌, find, Option, Some, None, pos, ◌+ℤ◌, ◌<ℤ◌, int_lt, FitsSigned, refl, ap, sym, subst, arith, rules}
 use Rattle.std.specs.Prelude.{IfSome}
-use Rattle.std.specs.Int.{w64, w128}
+use Rattle.std.specs.Int.{w64}
 use Rattle.std.proofs.lemmas.Int.{ints}
 use Rattle.market_types.specs.declared.symbol_spec.SymbolSpec.{SymbolSpec}
-use Rattle.account.specs.declared.deal.Deal.{Deal}
 use Rattle.account.specs.declared.deal.DealEntry.TheVariants as entry
 use Rattle.account.specs.declared.position.Position.{Position}
-use Rattle.account.specs.Keyed.{item, put, Rising, AllAbove, KeyIs}
-use Rattle.account.specs.Positions.{position_ticket, same_side, is_buy, is_balance, added, reduced, reversed, opened, dealt, after_deal}
+use Rattle.account.specs.Keyed.{item, Rising, AllAbove, KeyIs}
+use Rattle.account.specs.Positions.{position_ticket, same_side, is_buy, is_balance, added, reduced, reversed, opened, dealt}
 use Rattle.account.specs.Ranges.{IsHeld, MayDeal}
 use Rattle.account.proofs.Keys.{item_key}
 use Rattle.positions.specs.declared.fill.Fill.{Fill}
-use Rattle.positions.specs.Fills.{kind_of, plain, closed, closing, swap_paid, deal_on, met, IsFill, MayAdd}
+use Rattle.positions.specs.Fills.{kind_of, plain, closed, deal_on, met, MayAdd}
 use Rattle.positions.proofs.Held.{portion_left, weighted_fits}
 
 above_found : {X : Type 0} (key : X → ℕ) (q : X → Bool) (k : ℕ) (xs : List X) (p : X) → AllAbove ltb key k xs → find q xs ≡ Some p → ltb k (key p) ≡ true

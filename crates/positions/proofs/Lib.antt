@@ -1,3 +1,6 @@
+pub mod Closing
 pub mod Filled
 pub mod Filling
 pub mod Held
+pub mod Lengths
+pub mod Sums

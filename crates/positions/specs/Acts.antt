@@ -1,5 +1,5 @@
 -- What the rules of positions keep, and the stops that a fill changes (own).
-use Rattle.std.specs.Prelude.{◌≡◌, ℕ, ◌<◌, ◌&&◌, if◌then◌else◌, List, [], ◌∷◌, length, All, Option, Some, None, ℤ}
+use Rattle.std.specs.Prelude.{◌≡◌, ℕ, ◌<◌, ◌^◌, ◌&&◌, if◌then◌else◌, List, [], ◌∷◌, length, All, Option, Some, None, ℤ}
 use Rattle.std.specs.Ordering.{int_eq}
 use Rattle.market_types.specs.declared.symbol_spec.SymbolSpec.{SymbolSpec}
 use Rattle.account.specs.declared.position.Position.{Position}
@@ -14,10 +14,11 @@ use Rattle.positions.specs.declared.acts.Act.{Act}
 use Rattle.positions.specs.declared.fill.Fill.{Fill}
 use Rattle.positions.specs.Fills.{deal_on, levels_of, stops_event}
 
--- open positions by rising ticket, each of which keeps the types of its numbers
+-- open positions by rising ticket, each of which keeps the types of its numbers, and fewer than 2^32
 pub record IsOpen (ps : List Position) : Type 0 where
   pub rising : Rising position_ticket ps
   pub held : All IsHeld ps
+  pub few : length ps < 2 ^ 32
 
 -- the event of a change of stops
 abbrev pub change_events : Option Change → List Event

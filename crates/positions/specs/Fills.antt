@@ -1,5 +1,5 @@
 -- What a fill does, under both kinds of account (MetaTrader 5 Help, Netting and Hedging Systems).
-use Rattle.std.specs.Prelude.{◌≡◌, ℕ, ◌<◌, ◌++◌, Bool, true, false, not, ◌&&◌, ◌==◌, if◌then◌else◌, List, [], ◌∷◌, length, slice_get, Option, Some, None, IfSome, unwrap_or, All, Result, Ok, Err, FitsSigned, ⊤, ℤ, pos, ◌+ℤ◌, ◌<ℤ◌, int_lt}
+use Rattle.std.specs.Prelude.{◌≡◌, ℕ, ◌<◌, ◌++◌, Bool, true, false, ◌&&◌, ◌==◌, if◌then◌else◌, List, [], ◌∷◌, length, slice_get, Option, Some, None, IfSome, unwrap_or, Result, Ok, Err, FitsSigned, ℤ, pos, ◌+ℤ◌, ◌<ℤ◌, int_lt}
 use Rattle.std.specs.Int.{w64}
 use Rattle.std.specs.List.{fold, find}
 use Rattle.std.specs.Option.{option_map}
@@ -105,11 +105,15 @@ abbrev pub events_on : List SymbolSpec → Fill → Option Position → List Eve
 events_on specs f o =
     event.Added (deal_on specs f o) ∷ stops_event (after_deal (deal_on specs f o) o) (levels_of f o)
 
+-- the position of a ticket that is named; 0 names none
+abbrev pub named : List Position → ℕ → Option Position
+named ps ticket = if ticket == 0 then None else item position_ticket ticket ps
+
 -- the position that a fill meets: under netting the one that is open on its symbol, under hedging the one
 -- that it names
 abbrev pub met : Bool → List Position → Fill → Option Position
 met false ps f = find (λ p. p.symbol == f.symbol) ps
-met true ps f = if f.position == 0 then None else item position_ticket f.position ps
+met true ps f = named ps f.position
 
 -- why a fill that names a position is refused under hedging: that position is on its side, or smaller
 abbrev pub closing_refusal : Bool → Fill → Position → Option FillFault

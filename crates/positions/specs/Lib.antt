@@ -1,2 +1,4 @@
 pub mod Acts
+pub mod CloseBy
+pub mod Conserved
 pub mod Fills

@@ -1,15 +1,16 @@
 //! What a fill makes of open positions.
-ghost use Rattle.std.specs.Prelude.{◌≡◌, ◌==◌, ◌∷◌, ◌++◌, [], IfSome, OnOk, OnErr, All, length, ◌≤◌, ◌<◌, slice_get, is_some, IfOk, pos, ◌<ℤ◌, FitsSigned};
+ghost use Rattle.std.specs.Prelude.{◌≡◌, ◌==◌, ◌∷◌, ◌++◌, [], IfSome, OnOk, OnErr, All, length, ◌≤◌, ◌<◌, ◌+◌, ◌^◌, slice_get, is_some, IfOk, pos, ◌<ℤ◌, FitsSigned};
 ghost use Rattle.std.specs.List.{find, fold};
 ghost use Rattle.std.specs.Int.{w64};
 ghost use Rattle.std.specs.Option.{option_copied};
+ghost use Rattle.std.specs.Vec.{vec_len, vec_capacity};
 ghost use Rattle.market_types.specs.Ranges.{IsSpec};
 ghost use Rattle.account.specs.Keyed.{item, Rising};
 ghost use Rattle.account.specs.Positions.{position_ticket, after_deal, positions_after};
 ghost use Rattle.account.specs.Ranges.{IsHeld, KeepsTypes};
 ghost use Rattle.account.specs.Firing.{reaches_sl, reaches_tp, stop_reason, stops, stopped_positions};
 ghost use Rattle.account.specs.declared.event.Event.TheVariants as event;
-ghost use Rattle.positions.specs.Fills.{met, refusal, named_refusal, closing_refusal, levels_of, stops_event, filled, Leaves, IsFill, MayAdd};
+ghost use Rattle.positions.specs.Fills.{named, met, refusal, named_refusal, closing_refusal, levels_of, stops_event, filled, Leaves, IsFill, MayAdd};
 ghost use Rattle.positions.specs.Acts.{IsOpen, IsActOf, change_events, differing};
 
 use crate::fill::{deal_on, levels_of};
@@ -36,18 +37,27 @@ fn on_symbol(positions: &[Position], symbol: u8) -> Option<&Position>
     None
 }
 
+/// The position of a ticket that is named; `None` where none is, or where it is not open.
+fn named(positions: &[Position], ticket: u64) -> Option<&Position>
+    requires { Rising position_ticket positions.now }
+    ensures { option_copied result ≡ named positions.now ticket }
+{
+    if ticket == 0 {
+        return None;
+    }
+    look_up(positions, ticket)
+}
+
 /// The position that a fill meets.
-fn met<'a>(hedging: bool, positions: &'a [Position], fill: &Fill) -> Option<&'a Position>
+pub(crate) fn met<'a>(hedging: bool, positions: &'a [Position], fill: &Fill) -> Option<&'a Position>
     requires { Rising position_ticket positions.now }
     ensures { option_copied result ≡ met hedging positions.now fill.now }
 {
-    if !hedging {
-        return on_symbol(positions, fill.symbol);
+    if hedging {
+        named(positions, fill.position)
+    } else {
+        on_symbol(positions, fill.symbol)
     }
-    if fill.position == 0 {
-        return None;
-    }
-    look_up(positions, fill.position)
 }
 
 /// Why a fill that names a position is refused under hedging.
@@ -179,7 +189,6 @@ fn act_of(
     positions: &[Position],
     fill: &Fill,
 ) -> Result<Act, OutOfMemory>
-    requires symbol { fill.now.symbol < length specs.now }
     requires specs { All IsSpec specs.now }
     requires some { pos 0 <ℤ fill.now.volume }
     requires rising { Rising position_ticket positions.now }
@@ -206,6 +215,19 @@ fn number_ranges(fill: &Fill)
     let _price = fill.price.units();
 }
 
+/// Makes room for one more position, of fewer than 2^32.
+fn make_room(positions: &mut Vec<Position>) -> Result<(), OutOfMemory>
+    ensures items { positions.new.items ≡ positions.old.items }
+    ensures few { OnOk result (length positions.old.items + 1 < 2 ^ 32) }
+    ensures room { OnOk result (vec_len positions.new < vec_capacity positions.new) }
+{
+    if positions.len() >= u32::MAX as usize {
+        return Err(OutOfMemory);
+    }
+    positions.reserve(1)?;
+    Ok(())
+}
+
 /// What a fill makes of open positions, under hedging or under netting. A refused call changes nothing.
 pub(crate) fn fill_on(
     hedging: bool,
@@ -230,7 +252,7 @@ pub(crate) fn fill_on(
         return Err(FillFault::OutOfMemory);
     };
     number_ranges(fill);
-    if positions.reserve(1).is_err() {
+    if make_room(positions).is_err() {
         return Err(FillFault::OutOfMemory);
     }
     let Act {
@@ -277,6 +299,14 @@ pub(crate) fn add_swap_to(positions: &mut Vec<Position>, ticket: u64, amount: Mo
     ensures kept { IsOpen positions.new.items }
 {
     apply_swap(positions, ticket, amount)
+}
+
+/// How many positions there are.
+pub(crate) fn count(positions: &[Position]) -> u32
+    requires { length positions.now < 2 ^ 32 }
+    ensures { result ≡ length positions.now }
+{
+    positions.len() as u32
 }
 
 /// The position at a place; `None` exactly where the place is not below their number.

@@ -48,7 +48,8 @@ pub struct Fill {
 pub enum FillFault {
     /// The named position is not open on the symbol (TRADE_RETCODE_POSITION_CLOSED).
     PositionClosed,
-    /// Under hedging, the named position is on the side of the fill (TRADE_RETCODE_INVALID).
+    /// Under hedging, the named position is on the side of the fill; or a close-by is asked for two positions
+    /// that are not opposite, or under netting (TRADE_RETCODE_INVALID).
     WrongSide,
     /// Under hedging, the volume is above that of the named position (TRADE_RETCODE_INVALID_CLOSE_VOLUME).
     TooMuch,
@@ -70,33 +71,36 @@ fn kind_of(buy: bool) -> DealKind
     if buy { DealKind::Buy } else { DealKind::Sell }
 }
 
-/// The numbers of a symbol.
-fn spec_at(specs: &Specs, symbol: u8) -> &SymbolSpec
-    requires { symbol < length specs.now }
-    ensures { slice_get specs.now symbol ≡ Some result.now }
+/// The numbers of a symbol; `None` where it is not one of the list.
+fn spec_at(specs: &Specs, symbol: u8) -> Option<&SymbolSpec>
+    ensures { option_copied result ≡ slice_get specs.now symbol }
 {
-    &specs.as_slice()[symbol as usize]
+    specs.as_slice().get(symbol as usize)
 }
 
 /// What a deal of a lot of a symbol costs.
 fn rate_of(specs: &Specs, symbol: u8) -> Money
-    requires symbol { symbol < length specs.now }
     requires specs { All IsSpec specs.now }
     ensures value { result ≡ rate_of specs.now symbol }
     ensures from { pos 0 ≤ℤ result }
     ensures to { result ≤ℤ pos (10 ^ 8) }
 {
-    spec_at(specs, symbol).commission
+    match spec_at(specs, symbol) {
+        Some(spec) => spec.commission,
+        None => Money::of_cents(0),
+    }
 }
 
 /// How many units of the base currency a lot of a symbol has.
 fn contract_of(specs: &Specs, symbol: u8) -> u32
-    requires symbol { symbol < length specs.now }
     requires specs { All IsSpec specs.now }
     ensures value { result ≡ contract_of specs.now symbol }
     ensures most { result ≤ 10 ^ 6 }
 {
-    spec_at(specs, symbol).contract
+    match spec_at(specs, symbol) {
+        Some(spec) => spec.contract,
+        None => 0,
+    }
 }
 
 /// A deal of a fill, which gains and pays nothing.
@@ -148,7 +152,6 @@ fn deal_of(
 
 /// A deal that closes nothing.
 fn plain(specs: &Specs, fill: &Fill, position: u64, entry: DealEntry, comment: Text) -> Deal
-    requires symbol { fill.now.symbol < length specs.now }
     requires specs { All IsSpec specs.now }
     requires comment { comment ≡ fill.now.comment }
     ensures { result ≡ plain specs.now fill.now position entry }
@@ -206,8 +209,7 @@ fn paying(deal: Deal, profit: Money, swap: Money) -> Deal
 }
 
 /// A deal that closes a position, a part of it, or reverses it.
-fn closed(specs: &Specs, fill: &Fill, position: &Position, comment: Text) -> Deal
-    requires symbol { fill.now.symbol < length specs.now }
+pub fn closed(specs: &Specs, fill: &Fill, position: &Position, comment: Text) -> Deal
     requires specs { All IsSpec specs.now }
     requires some { pos 0 <ℤ fill.now.volume }
     requires held { pos 0 <ℤ position.now.volume }
@@ -233,7 +235,6 @@ pub fn deal_on(
     fill: &Fill,
     on: Option<&Position>,
 ) -> Result<Deal, OutOfMemory>
-    requires symbol { fill.now.symbol < length specs.now }
     requires specs { All IsSpec specs.now }
     requires some { pos 0 <ℤ fill.now.volume }
     requires held { IfSome (option_copied on) IsHeld }

@@ -2,11 +2,16 @@
 #![tactic(auto)]
 
 mod acts;
+mod by_opposite;
 mod fill;
+mod hedging;
+mod laws;
 mod netting;
 mod rule;
 
 pub use acts::stop_reason;
 pub use fill::{Fill, FillFault, Levels};
+pub use hedging::Hedging;
+pub use laws::positions_go_on;
 pub use netting::Netting;
 pub use rule::PositionRule;

@@ -2,7 +2,7 @@
 ghost use Rattle.std.specs.Prelude.{◌≡◌, [], All, false};
 ghost use Rattle.market_types.specs.Ranges.{IsSpec};
 
-use crate::acts::{add_swap_to, at_place, fill_on, fired_of, set_stops_of};
+use crate::acts::{add_swap_to, at_place, count, fill_on, fired_of, met, set_stops_of};
 use crate::rule::PositionRule;
 use crate::{Fill, FillFault};
 use account::{EventList, Position, look_up};
@@ -66,6 +66,16 @@ impl PositionRule for Netting {
         )
     }
 
+    fn close_by(
+        &mut self,
+        _one: u64,
+        _other: u64,
+        _at: &Fill,
+        _out: &mut EventList,
+    ) -> Result<(), FillFault> {
+        Err(FillFault::WrongSide)
+    }
+
     fn set_stops(&mut self, ticket: u64, sl: Fix8, tp: Fix8) -> bool {
         set_stops_of(&mut self.positions, ticket, sl, tp)
     }
@@ -74,8 +84,16 @@ impl PositionRule for Netting {
         add_swap_to(&mut self.positions, ticket, amount)
     }
 
+    fn met(&self, fill: &Fill) -> Option<&Position> {
+        met(false, &self.positions, fill)
+    }
+
     fn get(&self, ticket: u64) -> Option<&Position> {
         look_up(&self.positions, ticket)
+    }
+
+    fn len(&self) -> u32 {
+        count(&self.positions)
     }
 
     fn at(&self, i: u32) -> Option<&Position> {

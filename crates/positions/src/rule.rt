@@ -1,5 +1,5 @@
 //! What a rule of positions does, whatever it is.
-ghost use Rattle.std.specs.Prelude.{◌≡◌, ◌≤◌, ◌++◌, Bool, List, length, slice_get, is_some};
+ghost use Rattle.std.specs.Prelude.{◌≡◌, ◌≤◌, ◌++◌, ◌<◌, ◌^◌, Bool, List, length, slice_get, is_some};
 ghost use Rattle.std.specs.Option.{option_copied};
 ghost use Rattle.market_types.specs.declared.symbol_spec.SymbolSpec.{SymbolSpec as SpecValue};
 ghost use Rattle.account.specs.declared.position.Position.{Position as PositionValue};
@@ -9,6 +9,8 @@ ghost use Rattle.account.specs.Positions.{position_ticket, positions_after};
 ghost use Rattle.account.specs.Firing.{stopped_positions};
 ghost use Rattle.account.specs.Ranges.{KeepsTypes};
 ghost use Rattle.positions.specs.Fills.{met, filled, Leaves, IsFill, MayAdd};
+ghost use Rattle.positions.specs.CloseBy.{closed_by};
+ghost use Rattle.positions.specs.Conserved.{GainsItsDeals};
 
 use crate::{Fill, FillFault};
 use account::{EventList, Position};
@@ -32,6 +34,26 @@ pub trait PositionRule {
         ensures filled { Leaves
             (filled (hedging self.old) (specs self.old) (positions self.old) fill.now) result
             (positions self.old) (positions self.new) out.old out.new }
+        ensures volumes { GainsItsDeals (positions self.old) (positions self.new) out.old out.new }
+        ensures same_specs { specs self.new ≡ specs self.old }
+        ensures same_kind { hedging self.new ≡ hedging self.old };
+
+    /// Closes the smaller volume of two opposite positions by each other, and adds the two deals of that: the
+    /// first on `one` at the open price of `other`, the second, of the next number, on `other` at its own open
+    /// price. Order, time, number of the first deal, magic, reason and comment are those of `at`. A refused
+    /// call changes nothing.
+    fn close_by(
+        &mut self,
+        one: u64,
+        other: u64,
+        at: &Fill,
+        out: &mut EventList,
+    ) -> Result<(), FillFault>
+        requires deal { at.now.deal < 2 ^ 63 }
+        ensures closed { Leaves
+            (closed_by (hedging self.old) (specs self.old) (positions self.old) one other at.now) result
+            (positions self.old) (positions self.new) out.old out.new }
+        ensures volumes { GainsItsDeals (positions self.old) (positions self.new) out.old out.new }
         ensures same_specs { specs self.new ≡ specs self.old }
         ensures same_kind { hedging self.new ≡ hedging self.old };
 
@@ -53,9 +75,18 @@ pub trait PositionRule {
         ensures same_specs { specs self.new ≡ specs self.old }
         ensures same_kind { hedging self.new ≡ hedging self.old };
 
+    /// The position that a fill meets: under netting the one that is open on its symbol, under hedging the one
+    /// that it names; `None` where it opens one.
+    fn met(&self, fill: &Fill) -> Option<&Position>
+        ensures { option_copied result ≡ met (hedging self.now) (positions self.now) fill.now };
+
     /// The position of a ticket; `None` exactly where it is not open.
     fn get(&self, ticket: u64) -> Option<&Position>
         ensures { option_copied result ≡ item position_ticket ticket (positions self.now) };
+
+    /// How many positions are open.
+    fn len(&self) -> u32
+        ensures { result ≡ length (positions self.now) };
 
     /// The position at a place, by rising ticket; `None` exactly where the place is not below their number.
     fn at(&self, i: u32) -> Option<&Position>

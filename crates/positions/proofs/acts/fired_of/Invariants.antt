@@ -1,4 +1,4 @@
-use Rattle.std.proofs.Common.{◌≡◌, ◌+◌, ◌++◌, ◌≤◌, length}
+use Rattle.std.proofs.Common.{◌≡◌, ◌++◌, ◌≤◌, length}
 use Rattle.account.specs.Firing.{stopped_positions}
 use Rattle.positions.proofs.acts.fired_of.Given as goal
 
