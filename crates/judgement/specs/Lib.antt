@@ -1,0 +1,4 @@
+pub mod Judge
+pub mod Numbers
+pub mod Rules
+pub mod Tables

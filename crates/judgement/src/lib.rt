@@ -1,0 +1,14 @@
+//! How a trade request is judged: the rules of each action in their order.
+#![tactic(auto)]
+
+mod judge;
+mod request;
+mod return_code;
+mod rules;
+mod tables;
+mod words;
+
+pub use judge::refusal;
+pub use request::{Answer, Request};
+pub use return_code::ReturnCode;
+pub use words::{Action, Filling};
