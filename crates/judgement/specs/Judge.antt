@@ -61,17 +61,17 @@ stops_target hedging ps place r =
 abbrev pub pending_refusal : List SymbolSpec → List Order → PriceList → ℤ → Request → Option ReturnCode
 pending_refusal specs orders prices time_ms r = first_failing
     (pending_rules (slice_get specs (place_of specs r.symbol)) (prices_at prices (place_of specs r.symbol))
-        (length orders) (second_of time_ms) r)
+    (length orders) (second_of time_ms) r)
 
 abbrev pub modify_refusal : List SymbolSpec → Option Order → PriceList → ℤ → Request → Option ReturnCode
 modify_refusal specs order prices time_ms r = first_failing
     (modify_rules order (symbol_of specs (place_of_order order)) (prices_of prices (place_of_order order))
-        (second_of time_ms) r)
+    (second_of time_ms) r)
 
 abbrev pub sltp_refusal : List SymbolSpec → Option Position → PriceList → Request → Option ReturnCode
 sltp_refusal specs position prices r = first_failing
     (sltp_rules position (symbol_of specs (place_of_position position))
-        (prices_of prices (place_of_position position)) r)
+    (prices_of prices (place_of_position position)) r)
 
 abbrev pub close_by_refusal : Bool → List Position → Request → Option ReturnCode
 close_by_refusal hedging ps r = first_failing
@@ -80,8 +80,9 @@ close_by_refusal hedging ps r = first_failing
 -- whether there is money for the deal is handed in
 abbrev pub deal_refusal : AccountSpec → List Position → PriceList → Bool → Request → Option ReturnCode
 deal_refusal spec ps prices money r = first_failing
-    (deal_rules spec.hedging (place_of spec.specs r.symbol) (slice_get spec.specs (place_of spec.specs r.symbol))
-        (prices_at prices (place_of spec.specs r.symbol)) (item position_ticket r.position ps) money r)
+    (deal_rules spec.hedging (place_of spec.specs r.symbol)
+    (slice_get spec.specs (place_of spec.specs r.symbol))
+    (prices_at prices (place_of spec.specs r.symbol)) (item position_ticket r.position ps) money r)
 
 -- an unknown action is none
 abbrev pub refusal_by :
@@ -100,8 +101,8 @@ refusal_by (Some action.Remove) spec orders ps prices time_ms money r =
 refusal_by (Some action.CloseBy) spec orders ps prices time_ms money r =
     close_by_refusal spec.hedging ps r
 
--- why the request is refused, where it is, over the account, the orders in force, the open positions, the last
--- loud prices and the time in milliseconds
+-- why the request is refused, where it is, over the account, the orders in force, the open positions, the
+-- last loud prices and the time in milliseconds
 abbrev pub refusal :
     AccountSpec → List Order → List Position → PriceList → ℤ → Bool → Request → Option ReturnCode
 refusal spec orders ps prices time_ms money r =

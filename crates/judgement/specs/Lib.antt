@@ -1,3 +1,4 @@
+pub mod Acts
 pub mod Judge
 pub mod Numbers
 pub mod Rules

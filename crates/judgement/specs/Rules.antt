@@ -1,5 +1,5 @@
--- The rules of requests, each a test (MQL5 Reference, Trade Server Return Codes, OrderSend; MetaTrader 5 Help,
--- Types of Orders, Stops Level). Prices and volumes are units of 10^-8.
+-- The rules of requests, each a test (MQL5 Reference, Trade Server Return Codes, OrderSend; MetaTrader 5
+-- Help, Types of Orders, Stops Level). Prices and volumes are units of 10^-8.
 use Rattle.std.specs.Prelude.{◌-◌, ◌*◌, ◌^◌, Bool, true, false, ◌&&◌, ◌||◌, if◌then◌else◌, ℤ, pos, ◌+ℤ◌, ◌-ℤ◌, int_lt, int_le, int_rem}
 use Rattle.std.specs.Ordering.{int_eq}
 use Rattle.std.specs.Int.{int_rem_euclid, int_div_euclid}

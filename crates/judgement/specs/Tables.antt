@@ -1,7 +1,7 @@
 -- The rules of each action in their order, each with the code that is told where it fails (MQL5 Reference,
--- OrderSend, Trade Request Structure, Trade Server Return Codes; the order is our own). What a rule looks up is
--- an argument: the symbol of the request, of the order or of the position, the last loud Bid and Ask of it, the
--- order that is named, and the position. A rule on what is missing does not hold.
+-- OrderSend, Trade Request Structure, Trade Server Return Codes; the order is our own). What a rule looks up
+-- is an argument: the symbol of the request, of the order or of the position, the last loud Bid and Ask of it,
+-- the order that is named, and the position. A rule on what is missing does not hold.
 use Rattle.std.specs.Prelude.{ℕ, Bool, true, false, not, ◌&&◌, ◌||◌, ◌==◌, nat_lt, if◌then◌else◌, List, [], ◌∷◌, Option, Some, None, is_some, ℤ, int_le}
 use Rattle.std.specs.Ordering.{int_eq}
 use Rattle.market_types.specs.declared.symbol_spec.SymbolSpec.{SymbolSpec}
@@ -119,31 +119,31 @@ abbrev pub deal_rules :
     List (Bool × ReturnCode)
 deal_rules hedging place symbol prices named money r =
     (is_some symbol, code.Invalid)
-  ∷ (is_some (side_of r.kind), code.InvalidOrder)
-  ∷ (is_some (filling_of r.filling), code.InvalidFill)
-  ∷ (has_volume symbol r.volume, code.InvalidVolume)
-  ∷ (is_some prices, code.PriceOff)
-  ∷ (names_open place named r, code.PositionClosed)
-  ∷ (names_other_side hedging named r, code.Invalid)
-  ∷ (names_enough hedging named r, code.InvalidCloseVolume)
-  ∷ (has_stops symbol prices (r.kind == 0) r, code.InvalidStops)
-  ∷ (money, code.NoMoney)
-  ∷ []
+    ∷ (is_some (side_of r.kind), code.InvalidOrder)
+    ∷ (is_some (filling_of r.filling), code.InvalidFill)
+    ∷ (has_volume symbol r.volume, code.InvalidVolume)
+    ∷ (is_some prices, code.PriceOff)
+    ∷ (names_open place named r, code.PositionClosed)
+    ∷ (names_other_side hedging named r, code.Invalid)
+    ∷ (names_enough hedging named r, code.InvalidCloseVolume)
+    ∷ (has_stops symbol prices (r.kind == 0) r, code.InvalidStops)
+    ∷ (money, code.NoMoney)
+    ∷ []
 
 -- the rules of a pending order, of which so many stand
 abbrev pub pending_rules :
     Option SymbolSpec → Option (ℤ × ℤ) → ℕ → ℤ → Request → List (Bool × ReturnCode)
 pending_rules symbol prices standing now r =
     (is_some symbol, code.Invalid)
-  ∷ (is_some (pending_kind_of r.kind), code.InvalidOrder)
-  ∷ (is_some (filling_of r.filling), code.InvalidFill)
-  ∷ (has_volume symbol r.volume, code.InvalidVolume)
-  ∷ (is_some prices, code.PriceOff)
-  ∷ (has_price symbol prices (pending_kind_of r.kind) r, code.InvalidPrice)
-  ∷ (has_order_stops symbol (pending_kind_of r.kind) r, code.InvalidStops)
-  ∷ (has_time now r, code.InvalidExpiration)
-  ∷ (nat_lt standing most_orders, code.LimitOrders)
-  ∷ []
+    ∷ (is_some (pending_kind_of r.kind), code.InvalidOrder)
+    ∷ (is_some (filling_of r.filling), code.InvalidFill)
+    ∷ (has_volume symbol r.volume, code.InvalidVolume)
+    ∷ (is_some prices, code.PriceOff)
+    ∷ (has_price symbol prices (pending_kind_of r.kind) r, code.InvalidPrice)
+    ∷ (has_order_stops symbol (pending_kind_of r.kind) r, code.InvalidStops)
+    ∷ (has_time now r, code.InvalidExpiration)
+    ∷ (nat_lt standing most_orders, code.LimitOrders)
+    ∷ []
 
 abbrev pub kind_of : Option Order → Option OrderKind
 kind_of None = None
@@ -154,11 +154,11 @@ abbrev pub modify_rules :
     Option Order → Option SymbolSpec → Option (ℤ × ℤ) → ℤ → Request → List (Bool × ReturnCode)
 modify_rules order symbol prices now r =
     (is_some order, code.InvalidOrder)
-  ∷ (changes_order now r order, code.NoChanges)
-  ∷ (has_price symbol prices (kind_of order) r, code.InvalidPrice)
-  ∷ (has_order_stops symbol (kind_of order) r, code.InvalidStops)
-  ∷ (has_time now r, code.InvalidExpiration)
-  ∷ []
+    ∷ (changes_order now r order, code.NoChanges)
+    ∷ (has_price symbol prices (kind_of order) r, code.InvalidPrice)
+    ∷ (has_order_stops symbol (kind_of order) r, code.InvalidStops)
+    ∷ (has_time now r, code.InvalidExpiration)
+    ∷ []
 
 -- the rule of a removal
 abbrev pub remove_rules : Option Order → List (Bool × ReturnCode)
@@ -169,15 +169,15 @@ abbrev pub sltp_rules :
     Option Position → Option SymbolSpec → Option (ℤ × ℤ) → Request → List (Bool × ReturnCode)
 sltp_rules position symbol prices r =
     (is_some position, code.PositionClosed)
-  ∷ (changes_stops r position, code.NoChanges)
-  ∷ (has_position_stops symbol prices position r, code.InvalidStops)
-  ∷ []
+    ∷ (changes_stops r position, code.NoChanges)
+    ∷ (has_position_stops symbol prices position r, code.InvalidStops)
+    ∷ []
 
 -- the rules of a close-by of two positions
 abbrev pub close_by_rules : Bool → Option Position → Option Position → List (Bool × ReturnCode)
 close_by_rules hedging one other =
     (hedging, code.Invalid)
-  ∷ (is_some one, code.PositionClosed)
-  ∷ (is_some other, code.PositionClosed)
-  ∷ (oppose one other, code.Invalid)
-  ∷ []
+    ∷ (is_some one, code.PositionClosed)
+    ∷ (is_some other, code.PositionClosed)
+    ∷ (oppose one other, code.Invalid)
+    ∷ []

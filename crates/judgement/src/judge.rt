@@ -42,7 +42,7 @@ fn is_name(word: &[u8], name: &[u16]) -> bool
 
 /// The place of the symbol of a name; one past the last where there is none.
 #[tactic(auto, unfolding(crate::specs::Judge::place_of))]
-fn place_of(specs: &Specs, name: &Text) -> u8
+pub fn place_of(specs: &Specs, name: &Text) -> u8
     requires { length specs.now ≤ 255 }
     ensures { result ≡ place_of specs.now name.now }
 {
@@ -68,7 +68,7 @@ fn symbol_at(specs: &Specs, place: u8) -> Option<&SymbolSpec>
 }
 
 /// The last loud Bid and Ask of the symbol at a place.
-fn prices_at(prices: &Prices, specs: &Specs, place: u8) -> Option<(Fix8, Fix8)>
+pub fn prices_at(prices: &Prices, specs: &Specs, place: u8) -> Option<(Fix8, Fix8)>
     requires { length prices.now ≡ length specs.now }
     ensures { result ≡ prices_at prices.now place }
 {
@@ -174,7 +174,7 @@ fn sltp_refusal(
 }
 
 /// The order that a request names.
-fn order_of<'a>(orders: &'a Orders, request: &Request) -> Option<&'a Order>
+pub fn order_of<'a>(orders: &'a Orders, request: &Request) -> Option<&'a Order>
     ensures { option_copied result ≡ order_of orders.now request.now }
 {
     orders.get(request.order)
@@ -211,7 +211,7 @@ fn netted<'a, P: PositionRule>(alloc: Global, rule: &'a P, place: u8) -> Option<
 }
 
 /// The position whose stops are to change.
-fn stops_target<'a, P: PositionRule>(
+pub fn stops_target<'a, P: PositionRule>(
     alloc: Global,
     rule: &'a P,
     place: u8,
@@ -260,9 +260,9 @@ fn deal_refusal<P: PositionRule>(
     deal_fault(spec.hedging, place, symbol, pair, named, money, request)
 }
 
-/// Why a request is refused: the code of the first rule of its action that fails, `None` exactly where all hold
-/// (MQL5 Reference, OrderSend). The rule of money of a deal is the last, and is told by `money`. It takes no
-/// memory.
+/// Why a request is refused: the code of the first rule of its action that fails, `None` exactly where all
+/// hold (MQL5 Reference, OrderSend). The rule of money of a deal is the last, and is told by `money`. It takes
+/// no memory.
 pub fn refusal<P: PositionRule>(
     alloc: Global,
     spec: &AccountSpec,

@@ -1,6 +1,7 @@
-//! How a trade request is judged: the rules of each action in their order.
+//! How a trade request is judged: the rules of each action in their order, and what is to be done.
 #![tactic(auto)]
 
+mod act;
 mod judge;
 mod request;
 mod return_code;
@@ -8,6 +9,7 @@ mod rules;
 mod tables;
 mod words;
 
+pub use act::{Act, Next, act_of};
 pub use judge::refusal;
 pub use request::{Answer, Request};
 pub use return_code::ReturnCode;

@@ -56,11 +56,7 @@ fn has_price(
 
 /// Whether the stops lie about what an order of the kind is filled at.
 #[tactic(auto, unfolding(crate::specs::Tables::has_order_stops))]
-fn has_order_stops(
-    symbol: Option<&SymbolSpec>,
-    kind: Option<OrderKind>,
-    request: &Request,
-) -> bool
+fn has_order_stops(symbol: Option<&SymbolSpec>, kind: Option<OrderKind>, request: &Request) -> bool
     requires { IfSome (option_copied symbol) IsSpec }
     ensures { result ≡ has_order_stops (option_copied symbol.entry) kind request.now }
 {
@@ -75,7 +71,7 @@ fn has_order_stops(
 }
 
 /// What a position is closed at: Bid for a buy, Ask for a sell.
-fn closing_price(buy: bool, prices: (Fix8, Fix8)) -> Fix8
+pub fn closing_price(buy: bool, prices: (Fix8, Fix8)) -> Fix8
     ensures { result ≡ closing_price buy prices }
 {
     if buy { prices.0 } else { prices.1 }
@@ -222,7 +218,7 @@ fn names_open(place: u8, named: Option<&Position>, request: &Request) -> bool
     }
 }
 
-fn buys(kind: u32) -> bool
+pub fn buys(kind: u32) -> bool
     ensures { result ≡ (kind == 0) }
 {
     kind == 0
