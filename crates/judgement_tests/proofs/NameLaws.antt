@@ -8,11 +8,11 @@ six_letters = record {
   some = omega arith;
   few = omega arith;
   characters =
-      All-cons IsNameCharacter 69 _ (omega arith, omega arith)
-      (All-cons IsNameCharacter 85 _ (omega arith, omega arith)
-      (All-cons IsNameCharacter 82 _ (omega arith, omega arith)
-      (All-cons IsNameCharacter 85 _ (omega arith, omega arith)
-      (All-cons IsNameCharacter 83 _ (omega arith, omega arith)
+      All-cons IsNameCharacter 69 (85 ∷ 82 ∷ 85 ∷ 83 ∷ 68 ∷ []) (omega arith, omega arith)
+      (All-cons IsNameCharacter 85 (82 ∷ 85 ∷ 83 ∷ 68 ∷ []) (omega arith, omega arith)
+      (All-cons IsNameCharacter 82 (85 ∷ 83 ∷ 68 ∷ []) (omega arith, omega arith)
+      (All-cons IsNameCharacter 85 (83 ∷ 68 ∷ []) (omega arith, omega arith)
+      (All-cons IsNameCharacter 83 (68 ∷ []) (omega arith, omega arith)
       (All-cons IsNameCharacter 68 [] (omega arith, omega arith) (λ k d small. absurd (omega (arith, small))))))));
 }
 
