@@ -18,7 +18,7 @@ use market_types::Specs;
 use std::alloc::Global;
 
 /// Whether two positions are of one symbol, one a buy and the other a sell.
-fn are_opposite(one: &Position, other: &Position) -> bool
+pub fn are_opposite(one: &Position, other: &Position) -> bool
     ensures { result ≡ are_opposite one.now other.now }
 {
     if one.symbol == other.symbol {

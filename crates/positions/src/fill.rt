@@ -72,7 +72,7 @@ fn kind_of(buy: bool) -> DealKind
 }
 
 /// The numbers of a symbol; `None` where it is not one of the list.
-fn spec_at(specs: &Specs, symbol: u8) -> Option<&SymbolSpec>
+pub fn spec_at(specs: &Specs, symbol: u8) -> Option<&SymbolSpec>
     ensures { option_copied result ≡ slice_get specs.now symbol }
 {
     specs.as_slice().get(symbol as usize)

@@ -10,7 +10,8 @@ mod netting;
 mod rule;
 
 pub use acts::stop_reason;
-pub use fill::{Fill, FillFault, Levels};
+pub use by_opposite::are_opposite;
+pub use fill::{Fill, FillFault, Levels, spec_at};
 pub use hedging::Hedging;
 pub use laws::positions_go_on;
 pub use netting::Netting;

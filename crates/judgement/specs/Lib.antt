@@ -1,0 +1,5 @@
+pub mod Acts
+pub mod Judge
+pub mod Numbers
+pub mod Rules
+pub mod Tables

@@ -1,0 +1,16 @@
+//! How a trade request is judged: the rules of each action in their order, and what is to be done.
+#![tactic(auto)]
+
+mod act;
+mod judge;
+mod request;
+mod return_code;
+mod rules;
+mod tables;
+mod words;
+
+pub use act::{Act, Next, act_of};
+pub use judge::refusal;
+pub use request::{Answer, Request};
+pub use return_code::ReturnCode;
+pub use words::{Action, Filling};

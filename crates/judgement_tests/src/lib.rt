@@ -1,0 +1,5 @@
+//! Tests of judgement.
+#![tactic(auto)]
+
+#[cfg(test)]
+mod codes;
