@@ -1,5 +1,5 @@
 mod Rows
-mod Each
+pub mod Each
 mod Pieces
 mod Types
 mod Values

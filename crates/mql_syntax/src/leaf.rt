@@ -125,7 +125,7 @@ fn parts_of<'a>(
 
 /// The parts of a part that is a node.
 #[tactic(auto, unfolding(crate::specs::Leaves::inner))]
-pub(crate) fn inner<'a>(
+pub fn inner<'a>(
     alloc: Global,
     classes: &[Class],
     part: Part<'a>,
@@ -140,7 +140,7 @@ pub(crate) fn inner<'a>(
 
 /// Where a part stands that is at a place: at its node, or at the node that it is a token of.
 #[tactic(auto, unfolding(crate::specs::Leaves::place_of))]
-pub(crate) fn place_of(inside: Place, part: Part) -> Place
+pub fn place_of(inside: Place, part: Part) -> Place
     ensures { result ≡ place_of inside (part_seen part.entry) }
 {
     match part.tree {

@@ -7,6 +7,7 @@ mod leaf;
 mod lists;
 mod read_types;
 mod read_values;
+mod read_variables;
 mod statement;
 mod unread;
 mod value;
@@ -16,6 +17,9 @@ pub use declaration::{
     Start, Syntax, Variable, Words,
 };
 pub use kind::{Access, BinaryOperator, ClassKind, Place, StatementKind, Step, UnaryOperator};
-pub use read_values::read_value;
+pub use leaf::{inner, place_of};
+pub use read_values::{items, read_value, values_in};
+pub use read_variables::{Site, variables};
 pub use statement::Statement;
+pub use unread::Unread;
 pub use value::{Operation, TypeUse, Value};

@@ -192,7 +192,7 @@ fn with_type<'a>(
 }
 
 /// The parts that stand with their commas.
-pub(crate) fn items<'a>(
+pub fn items<'a>(
     first: ItemList<Part<'a>>,
     parts: &'a [Part<'a>],
 ) -> Result<ItemList<Part<'a>>, OutOfMemory>
@@ -529,7 +529,7 @@ pub(crate) fn value(
 
 /// Reads values that stand at a node.
 #[cycle(values)]
-pub(crate) fn values_in(
+pub fn values_in(
     alloc: Global,
     tokens: &[(Token, Span)],
     classes: &[Class],

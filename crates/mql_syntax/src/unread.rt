@@ -4,7 +4,7 @@ use fx8::OutOfMemory;
 
 /// Why a part of a tree is not read.
 #[derive(Clone, Copy, Debug, PartialEq, Eq)]
-pub(crate) enum Unread {
+pub enum Unread {
     /// It is not of the form.
     Nothing,
     /// There was no memory.
