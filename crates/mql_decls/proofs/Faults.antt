@@ -1,5 +1,8 @@
 -- Of several breaks the one that is told, in parts.
 use Rattle.std.proofs.Common.{◌≡◌, ℕ, Bool, true, false, ltb, eqb, ◌&&◌, ◌||◌, List, [], ◌∷◌, ◌++◌, Option, Some, None, refl, sym, ap, ◌∙◌, arith, if◌then◌else◌}
+use Rattle.std.specs.List.{flat_map}
+use Rattle.std.proofs.lemmas.Grind.{flat_map-append}
+use Rattle.std.proofs.lemmas.List.{append-nil}
 use Rattle.std.proofs.lemmas.Bool.Decides.{nat_tests}
 use Rattle.mql_decls.specs.declared.fault.Broken.{Broken}
 use Rattle.mql_decls.specs.Faults.{is_before, sooner, told}
@@ -55,6 +58,14 @@ sooner_assoc (Some x) (Some y) (Some z) =
 pub told_append : (xs ys : List Broken) → told (xs ++ ys) ≡ sooner (told xs) (told ys)
 told_append [] ys = refl
 told_append (x ∷ xs) ys = ap (sooner (Some x)) (told_append xs ys) ∙ sym (sooner_assoc (Some x) (told xs) (told ys))
+
+-- one more of a list
+pub each_told : {A : Type 0} (g : A → List Broken) (xs : List A) (x : A) (a b : Option Broken)
+    → a ≡ told (flat_map g xs) → b ≡ told (g x) → sooner a b ≡ told (flat_map g (xs ++ x ∷ []))
+each_told g xs x a b h k =
+    ap (λ o. sooner o b) h ∙ ap (sooner (told (flat_map g xs))) k
+    ∙ sym (told_append (flat_map g xs) (g x))
+    ∙ ap told (sym (flat_map-append g xs (x ∷ []) ∙ ap (λ ys. flat_map g xs ++ ys) (append-nil (g x))))
 
 pub sooner_none : (a : Option Broken) → sooner a None ≡ a
 sooner_none None = refl

@@ -1,5 +1,5 @@
 -- What is told of things, in parts.
-use Rattle.std.proofs.Common.{◌≡◌, Bool, true, false, ltb, ◌||◌, List, [], ◌∷◌, ◌++◌, map, length, Option, Result, Ok, Err, IfOk, is_none, refl, sym, ap, ◌∙◌}
+use Rattle.std.proofs.Common.{◌≡◌, Bool, true, false, not, ltb, ◌||◌, List, [], ◌∷◌, ◌++◌, map, length, Option, Result, Ok, Err, IfOk, is_none, refl, sym, ap, ◌∙◌}
 use Rattle.std.specs.List.{flat_map}
 use Rattle.std.proofs.lemmas.Grind.{flat_map-append}
 use Rattle.std.proofs.lemmas.List.{append-nil, append_assoc, map-append}
@@ -29,7 +29,8 @@ use Rattle.mql_decls.specs.Scopes.{Name, repeated}
 use Rattle.mql_decls.specs.Types.{Names, type_sort, type_place}
 use Rattle.mql_decls.specs.Things.{Thing, type_things, value_things, row_things, dimension_things, start_things, variable_things, variables_things, variable_name, variable_named, param_variable, result_things, body_parts, function_things, member_named, member_things, class_things, item_named, item_things, things_of, own_locals, own_names, shares, list_among, parts_of, scopes_of, behind, statement_things, parts_things, list_things}
 use Rattle.mql_decls.specs.Things as thing
-use Rattle.mql_decls.specs.Rules.{breaks, told_of, is_unknown, later_open, lacks_after}
+use Rattle.mql_decls.specs.Events.{some_event}
+use Rattle.mql_decls.specs.Rules.{breaks, event_breaks, told_of, is_unknown, later_open, lacks_after}
 use Rattle.mql_decls.proofs.Faults.{told_append}
 
 pub of_append : (names : Names) (xs ys : List Thing) → told_of names (xs ++ ys) ≡ sooner (told_of names xs) (told_of names ys)
@@ -58,8 +59,17 @@ at_variable names locals v r h = h ∙ sym (told_nils (break_if (ltb 4 (length v
 pub at_function : (names : Names) (f : Function) (r : Option Broken)
     → r ≡ sooner (told (break_if (is_none f.result) 2 f.place)) (told (break_if (lacks_after false f.params) 15 f.place)) → r ≡ told_of names (thing.function f ∷ [])
 at_function names f r h =
-    h ∙ sym (told_nil (break_if (is_none f.result) 2 f.place ++ break_if (lacks_after false f.params) 15 f.place)
-    ∙ told_append (break_if (is_none f.result) 2 f.place) (break_if (lacks_after false f.params) 15 f.place))
+    let xs = break_if (is_none f.result) 2 f.place in
+    let ys = break_if (lacks_after false f.params) 15 f.place in
+    h ∙ sym (told_nil (xs ++ (ys ++ [])) ∙ told_append xs (ys ++ []) ∙ ap (sooner (told xs)) (told_nil ys))
+
+pub at_program : (names : Names) (s : Syntax) (r a b : Option Broken)
+    → a ≡ told (flat_map (event_breaks names) s.items) → b ≡ told (break_if (not (some_event s.items)) 16 s.place)
+    → r ≡ sooner a b → r ≡ told_of names (thing.program s ∷ [])
+at_program names s r a b h k t =
+    let xs = flat_map (event_breaks names) s.items in
+    let ys = break_if (not (some_event s.items)) 16 s.place in
+    t ∙ ap (λ x. sooner x b) h ∙ ap (sooner (told xs)) k ∙ sym (told_nil (xs ++ ys) ∙ told_append xs ys)
 
 list_of_values : (n : _) (row : Row_of-Value n) → row_things row ≡ flat_map value_things (items-the_row-Value n row)
 list_of_values n end_of-Value = refl
@@ -299,9 +309,13 @@ whole_class names c r a b h k s =
     s ∙ ap (λ x. sooner x b) h ∙ ap (sooner (told_of names (thing.scope (map (member_named names) c.members) ∷ []))) k
     ∙ sym (of_append names (thing.scope (map (member_named names) c.members) ∷ []) (flat_map member_things c.members))
 
-pub whole_program : (names : Names) (s : Syntax) (r a b : Option Broken)
-    → a ≡ told_of names (thing.scope (flat_map (item_named names) s.items) ∷ []) → b ≡ told_of names (flat_map (item_things names) s.items)
-    → r ≡ sooner a b → r ≡ told_of names (things_of names s)
-whole_program names s r a b h k t =
-    t ∙ ap (λ x. sooner x b) h ∙ ap (sooner (told_of names (thing.scope (flat_map (item_named names) s.items) ∷ []))) k
-    ∙ sym (of_append names (thing.scope (flat_map (item_named names) s.items) ∷ []) (flat_map (item_things names) s.items))
+pub whole_program : (names : Names) (s : Syntax) (r p a b : Option Broken)
+    → p ≡ told_of names (thing.program s ∷ []) → a ≡ told_of names (thing.scope (flat_map (item_named names) s.items) ∷ []) → b ≡ told_of names (flat_map (item_things names) s.items)
+    → r ≡ sooner p (sooner a b) → r ≡ told_of names (things_of names s)
+whole_program names s r p a b g h k t =
+    let ps = thing.program s ∷ [] in
+    let ss = thing.scope (flat_map (item_named names) s.items) ∷ [] in
+    let is = flat_map (item_things names) s.items in
+    t ∙ ap (λ x. sooner x (sooner a b)) g
+    ∙ ap (sooner (told_of names ps)) (ap (λ x. sooner x b) h ∙ ap (sooner (told_of names ss)) k ∙ sym (of_append names ss is))
+    ∙ sym (of_append names ps (ss ++ is))

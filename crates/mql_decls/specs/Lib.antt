@@ -4,4 +4,5 @@ pub mod Maps
 pub mod Types
 pub mod Meanings
 pub mod Things
+pub mod Events
 pub mod Rules

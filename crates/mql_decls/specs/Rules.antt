@@ -4,6 +4,8 @@ use Rattle.mql_syntax.specs.declared.declaration.Dimension.{Dimension}
 use Rattle.mql_syntax.specs.declared.declaration.Dimension.TheVariants.{Open, Size}
 use Rattle.mql_syntax.specs.declared.declaration.Start.TheVariants as start
 use Rattle.mql_syntax.specs.declared.declaration.Param.{Param}
+use Rattle.mql_syntax.specs.declared.declaration.Item.{Item}
+use Rattle.mql_syntax.specs.declared.declaration.Item.TheVariants as item
 use Rattle.mql_syntax.specs.declared.declaration.Syntax.{Syntax}
 use Rattle.mql_decls.specs.declared.fault.Broken.{Broken}
 use Rattle.mql_decls.specs.declared.types.Sort.{Sort}
@@ -14,6 +16,7 @@ use Rattle.mql_decls.specs.Types.{Names, type_sort, type_place}
 use Rattle.mql_decls.specs.Meanings.{names_of}
 use Rattle.mql_decls.specs.Things.{Thing, things_of}
 use Rattle.mql_decls.specs.Things as thing
+use Rattle.mql_decls.specs.Events.{other_event, some_event}
 
 -- 1 a name is declared twice in its scope (functions: with equal parameter types)
 abbrev pub twice : Names → Thing → List Broken
@@ -62,9 +65,20 @@ abbrev pub defaults : Names → Thing → List Broken
 defaults names (thing.function f) = break_if (lacks_after false f.params) 15 f.place
 defaults names _ = []
 
+-- 16 an event function has other parameters or another result, or none of the five is there
+abbrev pub event_breaks : Names → Item → List Broken
+event_breaks names (item.Function f) = break_if (other_event names f) 16 f.place
+event_breaks names _ = []
+
+abbrev pub events : Names → Thing → List Broken
+events names (thing.program s) =
+    flat_map (event_breaks names) s.items ++ break_if (not (some_event s.items)) 16 s.place
+events names _ = []
+
 -- the rules at a thing
 abbrev pub breaks : Names → Thing → List Broken
-breaks names t = twice names t ++ (unknown_type names t ++ (dimensions names t ++ defaults names t))
+breaks names t =
+    twice names t ++ (unknown_type names t ++ (dimensions names t ++ (defaults names t ++ events names t)))
 
 -- what is told of things
 abbrev pub told_of : Names → List Thing → Option Broken

@@ -9,6 +9,7 @@ ghost use Rattle.mql_decls.specs.Rules.{told_of, first_broken};
 
 use crate::fault::{Broken, sooner};
 use crate::items::{function_named, items_told};
+use crate::rules::program_told;
 use crate::scope::Named;
 use crate::types::{Meaning, Meanings};
 use crate::walk::{scope_told, variable_named};
@@ -197,7 +198,7 @@ fn told_with(
 {
     let scope = program_scope_told(alloc, names, syntax.items.as_slice())?;
     let items = items_told(alloc, names, syntax.items.as_slice())?;
-    Ok(sooner(scope, items))
+    Ok(sooner(program_told(names, syntax), sooner(scope, items)))
 }
 
 /// The broken rule of a program's declarations that is told, if one is broken: that of the first node in the

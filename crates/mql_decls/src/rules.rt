@@ -4,11 +4,14 @@ ghost use Rattle.mql_decls.specs.Maps.{meaning};
 ghost use Rattle.mql_decls.specs.Things.{type_things};
 ghost use Rattle.mql_decls.specs.Things as thing;
 ghost use Rattle.mql_decls.specs.Types.{type_place};
-ghost use Rattle.mql_decls.specs.Rules.{told_of, is_unknown, is_open, some_open, later_open, has_default, lacks_after};
+ghost use Rattle.std.specs.List.{flat_map};
+ghost use Rattle.mql_decls.specs.Faults.{told};
+ghost use Rattle.mql_decls.specs.Rules.{told_of, event_breaks, is_unknown, is_open, some_open, later_open, has_default, lacks_after};
 
+use crate::event::{other_event, some_event};
 use crate::fault::{Broken, break_if, sooner};
 use crate::types::{Meanings, Sort, type_sort};
-use mql_syntax::{Dimension, Function, Param, Place, Start, TypeUse, Variable};
+use mql_syntax::{Dimension, Function, Item, Param, Place, Start, Syntax, TypeUse, Variable};
 
 fn is_unknown(sort: Sort) -> bool
     ensures { result ≡ is_unknown sort }
@@ -110,5 +113,34 @@ pub(crate) fn function_told(names: &Meanings<'_>, f: &Function) -> Option<Broken
     sooner(
         break_if(f.result.is_none(), 2, f.place),
         break_if(lacks_default(f.params.as_slice()), 15, f.place),
+    )
+}
+
+fn event_told(names: &Meanings<'_>, item: &Item) -> Option<Broken>
+    ensures { result ≡ told (event_breaks (meaning names.now) item.now) }
+{
+    match item {
+        Item::Function(f) => break_if(other_event(names, f), 16, f.place),
+        _ => None,
+    }
+}
+
+fn events_told(names: &Meanings<'_>, items: &[Item]) -> Option<Broken>
+    ensures { result ≡ told (flat_map (event_breaks (meaning names.now)) items.now) }
+{
+    let mut told: Option<Broken> = None;
+    for item in items {
+        told = sooner(told, event_told(names, item));
+    }
+    told
+}
+
+/// What a program breaks as a whole.
+pub(crate) fn program_told(names: &Meanings<'_>, syntax: &Syntax) -> Option<Broken>
+    ensures { result ≡ told_of (meaning names.now) (thing.program syntax.now ∷ []) }
+{
+    sooner(
+        events_told(names, syntax.items.as_slice()),
+        break_if(!some_event(syntax.items.as_slice()), 16, syntax.place),
     )
 }
