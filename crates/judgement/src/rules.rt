@@ -7,28 +7,8 @@ ghost use Rattle.market_types.specs.Ranges.{IsSpec};
 ghost use Rattle.judgement.specs.Rules.{is_multiple, is_volume, point_of, distance_of, keeps_below, is_stop_below, is_stop_above, are_stops, kind_buys, keeps_side, keeps_limit, is_order_price, stops_reference, second_of, day_begin, not_past, day_end, may_expire, expiry};
 
 use account::{OrderKind, OrderTime};
-use fx8::Fix8;
+use fx8::{Fix8, unit_of_place};
 use market_types::SymbolSpec;
-
-/// How many units the last of so many decimals is worth.
-fn unit_of_place(digits: u8) -> u64
-    requires { digits ≤ 8 }
-    ensures value { result ≡ unit_of_place digits }
-    ensures some { 0 < result }
-    ensures most { result ≤ 10 ^ 8 }
-{
-    match digits {
-        0 => 100_000_000,
-        1 => 10_000_000,
-        2 => 1_000_000,
-        3 => 100_000,
-        4 => 10_000,
-        5 => 1_000,
-        6 => 100,
-        7 => 10,
-        _ => 1,
-    }
-}
 
 /// A point of a symbol.
 fn point_of(spec: &SymbolSpec) -> Fix8

@@ -5,7 +5,7 @@ ghost use Rattle.market_types.specs.Ranges.{ArePoints};
 ghost use Rattle.market_data.specs.Quotes.{point, spread_of, quote, rises, bar_quotes, bar_number, is_heard, number_at, with_loud, heard, IsAsk, IsQuote};
 ghost use Rattle.market_data.specs.Stages.{price_at, seconds_at};
 
-use fx8::Fix8;
+use fx8::{Fix8, unit_of_place};
 use market_types::{Bar, Period, Quote};
 use std::marker::Model;
 
@@ -38,17 +38,7 @@ fn point(digits: u8) -> i64
     ensures value { result ≡ pos (point digits) }
     ensures most { point digits ≤ 10 ^ 8 }
 {
-    match digits {
-        0 => 100_000_000,
-        1 => 10_000_000,
-        2 => 1_000_000,
-        3 => 100_000,
-        4 => 10_000,
-        5 => 1_000,
-        6 => 100,
-        7 => 10,
-        _ => 1,
-    }
+    unit_of_place(digits) as i64
 }
 
 /// Whether the bar closes at its opening price or above.

@@ -6,7 +6,7 @@ ghost use Rattle.indicators.specs.Prices.{IsPriced};
 ghost use Rattle.series.specs.Bars.{opens, spread, lots};
 ghost use Rattle.series.specs.Pushed.{opened, grown};
 
-use fx8::Fix8;
+use fx8::{Fix8, unit_of_place};
 use market_types::{Bar, Period, Quote};
 
 /// A point in units of 10^-8.
@@ -14,17 +14,7 @@ fn point(digits: u8) -> u64
     ensures value { result ≡ point digits }
     ensures some { 1 ≤ result }
 {
-    match digits {
-        0 => 100_000_000,
-        1 => 10_000_000,
-        2 => 1_000_000,
-        3 => 100_000,
-        4 => 10_000,
-        5 => 1_000,
-        6 => 100,
-        7 => 10,
-        _ => 1,
-    }
+    unit_of_place(digits)
 }
 
 /// When the bar of a quote opens, in seconds.
