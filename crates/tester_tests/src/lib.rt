@@ -1,10 +1,6 @@
-//! Tests of the commands from end to end, over files and a sink in memory.
+//! Tests of the commands and of the stages between files and report, where no file of cases can say it.
 #![tactic(auto)]
 
-#[cfg(test)]
-mod experts;
-#[cfg(test)]
-mod market;
 #[cfg(test)]
 mod outside;
 #[cfg(test)]
@@ -12,8 +8,6 @@ mod parts;
 #[cfg(test)]
 mod quick;
 #[cfg(test)]
-mod rows;
-#[cfg(test)]
-mod sources;
+mod settings;
 #[cfg(test)]
 mod statuses;

@@ -1,0 +1,28 @@
+//! What a command writes.
+use crate::case::Case;
+use fx8::{Numbers, OutOfMemory, Text8};
+use std::alloc::Global;
+use tester_cli::{fault_text, run_single};
+use tester_io::{MemFiles, MemSink};
+
+/// The files of a case.
+fn files_of(alloc: Global, case: &Case) -> Result<MemFiles, OutOfMemory> {
+    let fails = Numbers::from_slice(alloc, case.fails.as_slice())?;
+    let mut files = MemFiles::new(alloc, fails);
+    for held in &case.files {
+        files.set(&held.name, held.bytes.as_slice())?;
+    }
+    Ok(files)
+}
+
+/// What the command of a case writes, and the fault line behind it.
+pub fn written(alloc: Global, case: &Case) -> Result<Text8, OutOfMemory> {
+    let mut files = files_of(alloc, case)?;
+    let refused = Numbers::from_slice(alloc, case.refused.as_slice())?;
+    let mut out = MemSink::new(alloc, refused);
+    let status = run_single(alloc, case.words.as_slice(), &mut files, &mut out);
+    let mut text = Text8::from_slice(alloc, out.bytes().as_slice())?;
+    let line = fault_text(alloc, &status)?;
+    text.extend_from_slice(line.as_slice())?;
+    Ok(text)
+}
