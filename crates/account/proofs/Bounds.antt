@@ -68,7 +68,7 @@ total_le {X} f m (x ∷ xs) h =
     let e : suc (length xs) * m ≡ m + length xs * m = grind arith in
     omega (arith, one, rest, s, e)
 
-filter_few : {X : Type 0} (p : X → Bool) (xs : List X) → length (filter p xs) ≤ length xs
+pub filter_few : {X : Type 0} (p : X → Bool) (xs : List X) → length (filter p xs) ≤ length xs
 filter_few p [] = omega arith
 filter_few {X} p (x ∷ xs) = let h : length (filter p xs) ≤ length xs = filter_few p xs in elim (p x) as (λ b. length (cond b (x ∷ filter p xs) (filter p xs)) ≤ suc (length xs)) [ true ↦ omega (arith, h) | false ↦ omega (arith, h) ]
 
