@@ -64,8 +64,9 @@ fn judge_money<P: PositionRule>(
     ensures { IfOk result (IsJudged ledger.now orders.now prices.now time_ms next request.now) }
 {
     let spec = ledger.spec();
-    let Some(act) = act_of(alloc, spec, orders, rule, prices, time_ms, next, request)? else {
-        return Ok(Judged::Refused(ReturnCode::Invalid));
+    let act = match act_of(alloc, spec, orders, rule, prices, time_ms, next, request)? {
+        Some(act) => act,
+        None => return Ok(Judged::Refused(ReturnCode::Invalid)),
     };
     if !has_money_to(alloc, ledger, prices, &act)? {
         return Ok(Judged::Refused(ReturnCode::NoMoney));
@@ -77,7 +78,7 @@ fn judge_money<P: PositionRule>(
 /// action that fails, that of money included; where none fails, what is to be done is told, with the tickets that
 /// come next. It takes memory for comments and, where a deal comes to the rule of money, for copies of the
 /// positions.
-pub fn judge<P: PositionRule>(
+pub fn judge_request<P: PositionRule>(
     alloc: Global,
     ledger: &Ledger,
     orders: &Orders,

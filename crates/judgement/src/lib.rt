@@ -10,7 +10,7 @@ mod rules;
 mod tables;
 mod words;
 
-pub use accept::{Judged, judge};
+pub use accept::{Judged, judge_request};
 pub use act::{Act, Next, act_of};
 pub use judge::refusal;
 pub use request::{Answer, Request};

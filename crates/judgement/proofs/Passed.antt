@@ -1,6 +1,6 @@
 -- What holds of a request whose rules hold.
 use Rattle.std.proofs.Common.{◌≡◌, ◌∙◌, ℕ, suc, zero, ◌+◌, ◌^◌, ◌<◌, ◌≤◌, ◌++◌, Bool, true, false, not, cond, eqb, List, [], ◌∷◌, length, take, slice_get, Option, Some, None, ℤ, pos, ◌+ℤ◌, ◌≤ℤ◌, ◌<ℤ◌, int_lt, refl, ap, sym, subst, arith, rules, is_some}
-use Rattle.std.specs.Prelude.{IfSome, ⊤, ⊥, ◌&&◌, int_le}
+use Rattle.std.specs.Prelude.{IfSome, ⊤, ◌&&◌, int_le}
 use Rattle.std.specs.List.{All}
 use Rattle.std.proofs.lemmas.Int.{ints}
 use Rattle.std.proofs.lemmas.List.Elements.{All-tail}
@@ -24,10 +24,10 @@ use Rattle.judgement.specs.declared.return_code.ReturnCode.{ReturnCode}
 use Rattle.judgement.specs.declared.return_code.ReturnCode.TheVariants as code
 use Rattle.judgement.specs.declared.words.Action.{Action}
 use Rattle.judgement.specs.declared.words.Action.TheVariants as action
-use Rattle.judgement.specs.Accept.{has_money_to, has_money_if, IsDealable, IsPayable}
-use Rattle.judgement.specs.Acts.{fill_of, deal_act, pending_act, modify_act, sltp_act, act_by}
-use Rattle.judgement.specs.Judge.{place_of, symbol_of, prices_of, place_of_order, order_of, stops_target, refusal_by}
-use Rattle.judgement.specs.Numbers.{pending_kind_of, time_of}
+use Rattle.judgement.specs.Accept.{has_money_to, has_money_if, todo, refusal_of, IsDealable, IsPayable}
+use Rattle.judgement.specs.Acts.{fill_of, placed_order, changed_order, deal_act, pending_act, modify_act, sltp_act, act_by, act_of}
+use Rattle.judgement.specs.Judge.{place_of, symbol_of, prices_of, place_of_order, place_of_position, order_of, stops_target, refusal_by, refusal}
+use Rattle.judgement.specs.Numbers.{action_of, pending_kind_of, time_of}
 use Rattle.judgement.specs.Rules.{is_volume, is_multiple, second_of, may_expire}
 use Rattle.judgement.specs.Tables.{first_failing, has_volume, may_expire_so, has_time, deal_rules, pending_rules, modify_rules, sltp_rules}
 
@@ -96,7 +96,7 @@ has_act (Some action.Pending) spec orders ps prices time_ms next r h =
     let a : AllHold (pending_rules (slice_get spec.specs (place_of spec.specs r.symbol)) (prices_at prices (place_of spec.specs r.symbol)) (length orders) (second_of time_ms) r) = all_hold (pending_rules (slice_get spec.specs (place_of spec.specs r.symbol)) (prices_at prices (place_of spec.specs r.symbol)) (length orders) (second_of time_ms) r) h in
     pending_some next.order time_ms (place_of spec.specs r.symbol) (pending_kind_of r.kind) (time_of r.type_time) r a.1.0 (has_time_known (second_of time_ms) r a.1.1.1.1.1.1.1.0)
 has_act (Some action.Sltp) spec orders ps prices time_ms next r h =
-    sltp_some (stops_target spec.hedging ps (place_of spec.specs r.symbol) r) r (all_hold _ h).0
+    sltp_some (stops_target spec.hedging ps (place_of spec.specs r.symbol) r) r (all_hold (sltp_rules (stops_target spec.hedging ps (place_of spec.specs r.symbol) r) (symbol_of spec.specs (place_of_position (stops_target spec.hedging ps (place_of spec.specs r.symbol) r))) (prices_of prices (place_of_position (stops_target spec.hedging ps (place_of spec.specs r.symbol) r))) r) h).0
 has_act (Some action.Modify) spec orders ps prices time_ms next r h =
     let o : Option Order = order_of orders r in
     let a : AllHold (modify_rules (order_of orders r) (symbol_of spec.specs (place_of_order (order_of orders r))) (prices_of prices (place_of_order (order_of orders r))) (second_of time_ms) r) = all_hold (modify_rules (order_of orders r) (symbol_of spec.specs (place_of_order (order_of orders r))) (prices_of prices (place_of_order (order_of orders r))) (second_of time_ms) r) h in
@@ -195,12 +195,12 @@ deal_payable j prices time_ms next r m (Some pair) a h n fresh all e =
 pending_payable : (j : Journal) (prices : PriceList) (ticket : ℕ) (time_ms : ℤ) (place : ℕ) (k : Option OrderKind) (t : Option OrderTime) (r : Request) (a : Act) → pending_act ticket time_ms place k t r ≡ Some a → IsPayable j prices a
 pending_payable j prices ticket time_ms place None t r a e = cc
 pending_payable j prices ticket time_ms place (Some k) None r a e = cc
-pending_payable j prices ticket time_ms place (Some k) (Some t) r a e = let same : act.Place _ ≡ a = grind rules in subst (λ (x : Act). IsPayable j prices x) same tt
+pending_payable j prices ticket time_ms place (Some k) (Some t) r a e = let same : act.Place (placed_order ticket time_ms place k t r) ≡ a = grind rules in subst (λ (x : Act). IsPayable j prices x) same tt
 
 modify_payable : (j : Journal) (prices : PriceList) (time_ms : ℤ) (t : Option OrderTime) (o : Option Order) (r : Request) (a : Act) → modify_act time_ms t o r ≡ Some a → IsPayable j prices a
 modify_payable j prices time_ms None o r a e = cc
 modify_payable j prices time_ms (Some t) None r a e = cc
-modify_payable j prices time_ms (Some t) (Some o) r a e = let same : act.Change _ ≡ a = grind rules in subst (λ (x : Act). IsPayable j prices x) same tt
+modify_payable j prices time_ms (Some t) (Some o) r a e = let same : act.Change (changed_order time_ms t r o) ≡ a = grind rules in subst (λ (x : Act). IsPayable j prices x) same tt
 
 sltp_payable : (j : Journal) (prices : PriceList) (o : Option Position) (r : Request) (a : Act) → sltp_act o r ≡ Some a → IsPayable j prices a
 sltp_payable j prices None r a e = cc
@@ -215,4 +215,31 @@ payable (Some action.Pending) j orders prices time_ms next r a s n fresh h e = p
 payable (Some action.Sltp) j orders prices time_ms next r a s n fresh h e = sltp_payable j prices (stops_target j.spec.hedging (open_positions j.events) (place_of j.spec.specs r.symbol) r) r a e
 payable (Some action.Modify) j orders prices time_ms next r a s n fresh h e = modify_payable j prices time_ms (time_of r.type_time) (order_of orders r) r a e
 payable (Some action.Remove) j orders prices time_ms next r a s n fresh h e = let same : act.Remove r.order ≡ a = grind rules in subst (λ (x : Act). IsPayable j prices x) same tt
-payable (Some action.CloseBy) j orders prices time_ms next r a s n fresh h e = let same : act.CloseBy r.position r.position_by _ ≡ a = grind rules in subst (λ (x : Act). IsPayable j prices x) same tt
+payable (Some action.CloseBy) j orders prices time_ms next r a s n fresh h e = let same : act.CloseBy r.position r.position_by (fill_of next.order next.deal time_ms 0 (pos 0, pos 0) r) ≡ a = grind rules in subst (λ (x : Act). IsPayable j prices x) same tt
+
+-- the same of equal accounts, positions and times
+pub refused_at : (j : Journal) (s : AccountSpec) (orders : List Order) (ps : List Position) (prices : PriceList) (time_ms time : ℤ) (next : Next) (r : Request) (c : ReturnCode) → time ≡ time_ms → s ≡ j.spec → ps ≡ open_positions j.events → Some c ≡ refusal s orders ps prices time true r → refusal_of j orders prices time_ms next r ≡ Some c
+refused_at j s orders ps prices time_ms time next r c w e g h =
+    let k : refusal s orders ps prices time true r ≡ refusal j.spec orders (open_positions j.events) prices time_ms true r = ap (λ (z : ℤ). refusal s orders ps prices z true r) w ∙ ap (λ (x : AccountSpec). refusal x orders ps prices time_ms true r) e ∙ ap (λ (xs : List Position). refusal j.spec orders xs prices time_ms true r) g in
+    refused_before (action_of r.action) j.spec orders (open_positions j.events) prices time_ms (has_money_if j prices (todo j orders prices time_ms next r)) r c (sym (h ∙ k))
+
+todo_at : (j : Journal) (s : AccountSpec) (orders : List Order) (ps : List Position) (prices : PriceList) (time_ms time : ℤ) (next : Next) (r : Request) (o : Option Act) → time ≡ time_ms → s ≡ j.spec → ps ≡ open_positions j.events → o ≡ act_of s orders ps prices time next r → todo j orders prices time_ms next r ≡ o
+todo_at j s orders ps prices time_ms time next r o w e g h =
+    sym (h ∙ ap (λ (z : ℤ). act_of s orders ps prices z next r) w ∙ ap (λ (x : AccountSpec). act_of x orders ps prices time_ms next r) e ∙ ap (λ (xs : List Position). act_of j.spec orders xs prices time_ms next r) g)
+
+pub none_left : (j : Journal) (s : AccountSpec) (orders : List Order) (ps : List Position) (prices : PriceList) (time_ms time : ℤ) (next : Next) (r : Request) → time ≡ time_ms → s ≡ j.spec → ps ≡ open_positions j.events → refusal j.spec orders (open_positions j.events) prices time_ms true r ≡ None → None ≡ act_of s orders ps prices time next r → ⊥
+none_left j s orders ps prices time_ms time next r w e g h k =
+    differ (sym (ap (λ (o : Option Act). is_some o) (todo_at j s orders ps prices time_ms time next r None w e g k)) ∙ has_act (action_of r.action) j.spec orders (open_positions j.events) prices time_ms next r h)
+  where
+    differ : false ≡ true → ⊥
+    differ f = cc
+
+pub payable_at : (j : Journal) (s : AccountSpec) (orders : List Order) (ps : List Position) (prices : PriceList) (time_ms time : ℤ) (next : Next) (r : Request) (a : Act) → time ≡ time_ms → s ≡ j.spec → ps ≡ open_positions j.events → All IsSpec j.spec.specs → 0 < next.order → item position_ticket next.order (open_positions j.events) ≡ None → refusal j.spec orders (open_positions j.events) prices time_ms true r ≡ None → Some a ≡ act_of s orders ps prices time next r → IsPayable j prices a
+payable_at j s orders ps prices time_ms time next r a w e g all n fresh h k =
+    payable (action_of r.action) j orders prices time_ms next r a all n fresh h (todo_at j s orders ps prices time_ms time next r (Some a) w e g k)
+
+pub poor_at : (j : Journal) (s : AccountSpec) (orders : List Order) (ps : List Position) (prices : PriceList) (time_ms time : ℤ) (next : Next) (r : Request) (a : Act) (b : Bool) → time ≡ time_ms → s ≡ j.spec → ps ≡ open_positions j.events → refusal j.spec orders (open_positions j.events) prices time_ms true r ≡ None → Some a ≡ act_of s orders ps prices time next r → b ≡ has_money_to j prices a → b ≡ false → refusal_of j orders prices time_ms next r ≡ Some code.NoMoney
+poor_at j s orders ps prices time_ms time next r a b w e g h k m f =
+    let poor : has_money_if j prices (todo j orders prices time_ms next r) ≡ false = ap (λ (o : Option Act). has_money_if j prices o) (todo_at j s orders ps prices time_ms time next r (Some a) w e g k) ∙ sym m ∙ f in
+    ap (λ (x : Bool). refusal j.spec orders (open_positions j.events) prices time_ms x r) poor
+    ∙ refused_for_money (action_of r.action) j j.spec orders (open_positions j.events) prices time_ms next r h poor
