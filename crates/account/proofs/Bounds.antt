@@ -28,14 +28,14 @@ size_of true n = omega (arith, ints)
 size_of false n = refl
 
 -- what is rounded is no greater than a bound of the quotient
-rounded_le : (p : ℤ) (q m : ℕ) → 0 < q → unsigned_abs p ≤ m * q → unsigned_abs (rounded p (pos q)) ≤ m
+pub rounded_le : (p : ℤ) (q m : ℕ) → 0 < q → unsigned_abs p ≤ m * q → unsigned_abs (rounded p (pos q)) ≤ m
 unfolding rounded
 rounded_le p q m h b = rw (size_of _ (nearest (unsigned_abs p) q)) (nearest_le (unsigned_abs p) q m h b)
 
-size_64 : (z : ℤ) → FitsSigned w64 z → unsigned_abs z ≤ 2 ^ 63
+pub size_64 : (z : ℤ) → FitsSigned w64 z → unsigned_abs z ≤ 2 ^ 63
 size_64 z f = omega (arith, ints, f)
 
-contract_most : (specs : List SymbolSpec) (symbol : ℕ) → All IsSpec specs → contract_of specs symbol ≤ 10 ^ 6
+pub contract_most : (specs : List SymbolSpec) (symbol : ℕ) → All IsSpec specs → contract_of specs symbol ≤ 10 ^ 6
 contract_most [] symbol h = omega arith
 contract_most (s ∷ specs) zero h = (h zero s (omega arith)).contract_to
 contract_most (s ∷ specs) (suc n) h = contract_most specs n (All-tail IsSpec s specs h)
@@ -56,10 +56,10 @@ margin_most specs leverage p h l k =
     rounded_le (p.volume *ℤ p.price *ℤ pos c) (10 ^ 14 * leverage) (2 ^ 100) (omega (arith, l))
     (rw e (worth_le (unsigned_abs p.volume) (unsigned_abs p.price) c leverage (size_64 p.volume k.volume) (size_64 p.price k.price) (contract_most specs p.symbol h) l))
 
-sum_le : (a b : ℤ) → unsigned_abs (a +ℤ b) ≤ unsigned_abs a + unsigned_abs b
+pub sum_le : (a b : ℤ) → unsigned_abs (a +ℤ b) ≤ unsigned_abs a + unsigned_abs b
 sum_le a b = grind (arith, ints)
 
-total_le : {X : Type 0} (f : X → ℤ) (m : ℕ) (xs : List X) → All (λ x. unsigned_abs (f x) ≤ m) xs → unsigned_abs (total f xs) ≤ length xs * m
+pub total_le : {X : Type 0} (f : X → ℤ) (m : ℕ) (xs : List X) → All (λ x. unsigned_abs (f x) ≤ m) xs → unsigned_abs (total f xs) ≤ length xs * m
 total_le f m [] h = omega arith
 total_le {X} f m (x ∷ xs) h =
     let one : unsigned_abs (f x) ≤ m = h zero x (omega arith) in
@@ -68,17 +68,17 @@ total_le {X} f m (x ∷ xs) h =
     let e : suc (length xs) * m ≡ m + length xs * m = grind arith in
     omega (arith, one, rest, s, e)
 
-filter_few : {X : Type 0} (p : X → Bool) (xs : List X) → length (filter p xs) ≤ length xs
+pub filter_few : {X : Type 0} (p : X → Bool) (xs : List X) → length (filter p xs) ≤ length xs
 filter_few p [] = omega arith
 filter_few {X} p (x ∷ xs) = let h : length (filter p xs) ≤ length xs = filter_few p xs in elim (p x) as (λ b. length (cond b (x ∷ filter p xs) (filter p xs)) ≤ suc (length xs)) [ true ↦ omega (arith, h) | false ↦ omega (arith, h) ]
 
-few_fit : (specs : List SymbolSpec) (leverage : ℕ) (ps : List Position) → All IsSpec specs → 1 ≤ leverage → All IsHeld ps → length ps ≤ 50000 → FitsSigned w128 (total (position_margin specs leverage) ps)
+pub few_fit : (specs : List SymbolSpec) (leverage : ℕ) (ps : List Position) → All IsSpec specs → 1 ≤ leverage → All IsHeld ps → length ps ≤ 65536 → FitsSigned w128 (total (position_margin specs leverage) ps)
 few_fit specs leverage ps h l k n =
     let t : unsigned_abs (total (position_margin specs leverage) ps) ≤ length ps * 2 ^ 100 = total_le (position_margin specs leverage) (2 ^ 100) ps (λ i d p. margin_most specs leverage _ h l (k i d p)) in
     fits_signed_from_abs w128 _ (omega (arith, t, n))
 
 -- the sums of a side fit
-pub side_fits : (specs : List SymbolSpec) (leverage : ℕ) (ps : List Position) (buy : Bool) (symbol : ℕ) → All IsSpec specs → 1 ≤ leverage → All IsHeld ps → length ps ≤ 50000 → FitsSigned w128 (side_margin specs leverage ps buy symbol)
+pub side_fits : (specs : List SymbolSpec) (leverage : ℕ) (ps : List Position) (buy : Bool) (symbol : ℕ) → All IsSpec specs → 1 ≤ leverage → All IsHeld ps → length ps ≤ 65536 → FitsSigned w128 (side_margin specs leverage ps buy symbol)
 side_fits specs leverage ps buy symbol h l k n =
     let few : length (filter (is_on symbol buy) ps) ≤ length ps = filter_few (is_on symbol buy) ps in
     few_fit specs leverage (filter (is_on symbol buy) ps) h l (All-filter (is_on symbol buy) IsHeld ps k) (omega (arith, few, n))

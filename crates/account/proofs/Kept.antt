@@ -191,7 +191,7 @@ pub balance_sums : (spec : AccountSpec) (b : Books) → IsBooks spec b → b.tot
 balance_sums spec b h = ap (λ (t : Totals). t.balance) h.summed ∙ balance-now spec.deposit (trading_deals b.events.items) ∙ ap (λ z. spec.deposit +ℤ z) (sums (trading_deals b.events.items))
 
 -- what is kept of open positions
-pub few_held : (spec : AccountSpec) (b : Books) → IsBooks spec b → length b.positions.items ≤ 50000
+pub few_held : (spec : AccountSpec) (b : Books) → IsBooks spec b → length b.positions.items ≤ 65536
 few_held spec b h = rw h.held (let n : length (open_positions b.events.items) ≤ length (deals b.events.items) = few_open b.events.items in omega (arith, n, h.few))
 
 pub all_held : (spec : AccountSpec) (b : Books) → IsBooks spec b → All IsHeld b.positions.items

@@ -11,3 +11,4 @@ pub mod Statistics
 pub mod StopOut
 pub mod Totals
 pub mod Books
+pub mod Doubles

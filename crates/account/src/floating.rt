@@ -86,8 +86,9 @@ fn floating_sum(specs: &Specs, prices: &Prices, positions: &[Position]) -> Money
     sum
 }
 
-/// The equity: a balance and all floating profits.
-pub(crate) fn equity_of(
+/// The equity: a balance and the floating profits of positions, at the last loud Bid for a buy and Ask for a sell
+/// (MetaTrader 5 Help, Margin Calculation). Sum and parts are to fit 128 bits.
+pub fn equity_of(
     specs: &Specs,
     prices: &Prices,
     balance: Money,

@@ -1,5 +1,5 @@
 //! The ledger.
-ghost use Rattle.std.specs.Prelude.{◌≡◌, ◌<◌, ◌≤◌, ◌++◌, ◌∷◌, [], true, false, None, OnOk, OnErr, IfOk, Result, List, pos, ◌+ℤ◌, FitsSigned, nat_le, length};
+ghost use Rattle.std.specs.Prelude.{◌≡◌, ◌<◌, ◌≤◌, ◌++◌, ◌∷◌, [], true, false, None, OnOk, OnErr, IfOk, Result, List, pos, ◌+ℤ◌, FitsSigned, nat_le, length, All};
 ghost use Rattle.std.specs.Int.{w128};
 ghost use Rattle.std.specs.Vec.{vec_len, vec_capacity};
 ghost use Rattle.account.specs.Deals.{deal_of, deals, trading_deals, balance, total, profit_of, swap_of, commission_of};
@@ -7,7 +7,7 @@ ghost use Rattle.account.specs.Positions.{open_positions, positions_after, posit
 ghost use Rattle.account.specs.Keyed.{Rising};
 ghost use Rattle.account.specs.Statistics.{stats};
 ghost use Rattle.account.specs.Totals.{FitsAfter};
-ghost use Rattle.account.specs.Ranges.{IsAccount, IsEventOf, IsPriced, IsWithin, KeepsTypes};
+ghost use Rattle.account.specs.Ranges.{IsAccount, IsHeld, IsEventOf, IsPriced, IsWithin, KeepsTypes};
 ghost use Rattle.account.specs.StopOut.{equity, margin_of, worst};
 ghost use Rattle.account.specs.Journal.{deposit_deal};
 ghost use Rattle.account.specs.Books.{IsBooks, Answers, is_full};
@@ -293,6 +293,24 @@ impl Ledger {
         ensures refused_adds_none { OnErr result (self.new.events ≡ self.old.events) }
     {
         add(&mut self.books, &self.spec, self.alloc, event)
+    }
+
+    /// What the account is: its numbers are within their ranges.
+    pub fn spec(&self) -> &AccountSpec
+        ensures value { result.now ≡ self.now.spec }
+        ensures ranges { IsAccount self.now.spec }
+    {
+        &self.spec
+    }
+
+    /// The open positions, by rising ticket.
+    pub fn positions(&self) -> &[Position]
+        ensures value { result.now ≡ open_positions self.now.events }
+        ensures rising { Rising position_ticket (open_positions self.now.events) }
+        ensures held { All IsHeld (open_positions self.now.events) }
+        ensures few { length (open_positions self.now.events) ≤ 50000 }
+    {
+        self.books.positions.as_slice()
     }
 
     /// The deals, of which the first is the deposit.

@@ -22,8 +22,10 @@ pub use account_spec::AccountSpec;
 pub use copies::{copy_deal, copy_text};
 pub use deal::{Deal, DealEntry, DealKind, DealList, DealReason};
 pub use event::{Event, EventList, RemovalCause};
+pub use floating::equity_of;
 pub use laws::{balance_is_sums, volumes_are_sums};
 pub use ledger::{Ledger, LedgerFault};
+pub use margins::margin_by;
 pub use money::{commission, margin, portion, profit, weighted_price};
 pub use open_positions::{
     apply_deal, apply_stops, apply_swap, apply_to_open, is_balance, is_buy, is_closed_by, look_up,
@@ -33,3 +35,4 @@ pub use order::{Order, OrderKind, OrderTime};
 pub use position::Position;
 pub use prices::Prices;
 pub use stats::Stats;
+pub use totals::net;

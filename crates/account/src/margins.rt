@@ -52,7 +52,7 @@ fn margin_sum(spec: &AccountSpec, positions: &[Position]) -> Money
 fn side_margin(spec: &AccountSpec, positions: &[Position], buy: bool, symbol: u64) -> Money
     requires account { IsAccount spec.now }
     requires held { All IsHeld positions.now }
-    requires few { length positions.now ≤ 50000 }
+    requires few { length positions.now ≤ 65536 }
     ensures { result ≡ side_margin spec.now.specs spec.now.leverage positions.now buy symbol }
 {
     let mut sum = Money::of_cents(0);
@@ -70,7 +70,7 @@ fn side_margin(spec: &AccountSpec, positions: &[Position], buy: bool, symbol: u6
 fn symbol_margin(spec: &AccountSpec, positions: &[Position], symbol: u64) -> Money
     requires account { IsAccount spec.now }
     requires held { All IsHeld positions.now }
-    requires few { length positions.now ≤ 50000 }
+    requires few { length positions.now ≤ 65536 }
     ensures { result ≡ symbol_margin spec.now.specs spec.now.leverage positions.now symbol }
 {
     greater(
@@ -83,7 +83,7 @@ fn symbol_margin(spec: &AccountSpec, positions: &[Position], symbol: u64) -> Mon
 fn hedged_margin(spec: &AccountSpec, positions: &[Position]) -> Money
     requires account { IsAccount spec.now }
     requires held { All IsHeld positions.now }
-    requires few { length positions.now ≤ 50000 }
+    requires few { length positions.now ≤ 65536 }
     ensures { result ≡ int_wrap w128 (total_below
         (symbol_margin spec.now.specs spec.now.leverage positions.now) (length spec.now.specs)) }
 {
@@ -94,11 +94,12 @@ fn hedged_margin(spec: &AccountSpec, positions: &[Position]) -> Money
     sum
 }
 
-/// What open positions bind (MetaTrader 5 Help, Margin Calculation).
-pub(crate) fn margin_by(spec: &AccountSpec, positions: &[Position]) -> Money
+/// What open positions bind: under hedging, of each symbol the greater of the sums of both sides (MetaTrader 5
+/// Help, Margin Calculation). At most 65,536 positions may be handed in, and what they bind is to fit 128 bits.
+pub fn margin_by(spec: &AccountSpec, positions: &[Position]) -> Money
     requires account { IsAccount spec.now }
     requires held { All IsHeld positions.now }
-    requires few { length positions.now ≤ 50000 }
+    requires few { length positions.now ≤ 65536 }
     requires fits { FitsSigned w128
         (margin_by spec.now.hedging spec.now.specs spec.now.leverage positions.now) }
     ensures { result ≡ margin_by spec.now.hedging spec.now.specs spec.now.leverage positions.now }

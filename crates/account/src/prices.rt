@@ -1,5 +1,6 @@
 //! The prices that an account sees.
 ghost use Rattle.std.specs.Prelude.{◌≡◌, ◌<◌, length, slice_get, slice_set, Some, None, IfOk, All};
+ghost use Rattle.account.specs.Doubles.{IsPair};
 
 use fx8::{Fix8, OutOfMemory};
 use std::alloc::Global;
@@ -44,5 +45,33 @@ impl Prices {
         ensures { slice_get self.now symbol ≡ Some result }
     {
         self.pairs[symbol as usize]
+    }
+
+    /// Each Bid and Ask is a double, so the whole number that contracts see fits 64 bits.
+    pub fn ranges(&self)
+        ensures { All IsPair self.now }
+    {
+        all_ranges(self.pairs.as_slice());
+    }
+}
+
+/// Bid and Ask, where there are some, are doubles.
+fn range(pair: &Option<(Fix8, Fix8)>)
+    ensures { IsPair pair.now }
+{
+    if let Some((bid, ask)) = pair {
+        let _bid = bid.units();
+        let _ask = ask.units();
+    }
+}
+
+/// Each Bid and Ask is a double.
+fn all_ranges(pairs: &[Option<(Fix8, Fix8)>])
+    ensures { All IsPair pairs.now }
+{
+    let mut rest = pairs;
+    while let Some((pair, others)) = rest.split_first() {
+        range(pair);
+        rest = others;
     }
 }

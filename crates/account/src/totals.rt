@@ -42,9 +42,10 @@ pub(crate) fn totals_of_deposit(deposit: Money) -> Totals
     }
 }
 
-/// What a deal adds to the balance. What wraps on the way comes back, since the whole sum fits.
+/// What a deal adds to the balance: profit, swap and commission. The sum is to fit 128 bits; what wraps on the way
+/// comes back.
 #[tactic(auto, unfolding(crate::specs::Deals::net))]
-fn net(deal: &Deal) -> Money
+pub fn net(deal: &Deal) -> Money
     requires { FitsSigned w128 (net deal.now) }
     ensures { result ≡ net deal.now }
 {

@@ -4,3 +4,5 @@ pub mod Filling
 pub mod Held
 pub mod Lengths
 pub mod Sums
+pub mod Nets
+pub mod Room

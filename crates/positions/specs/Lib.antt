@@ -2,3 +2,4 @@ pub mod Acts
 pub mod CloseBy
 pub mod Conserved
 pub mod Fills
+pub mod Money
