@@ -1,0 +1,15 @@
+//! The laws of reading. These functions do nothing: each one's contract is its law.
+ghost use Rattle.mql_syntax_total.specs.Laws.{TypesAreRead, ValuesAreRead, StatementsAreRead, PartsAreFormed, ItemsAreFormed};
+
+/// The parts of a program are formed, and so are the parts of each formed part.
+pub fn parts_are_formed()
+    ensures items { ItemsAreFormed }
+    ensures parts { PartsAreFormed }
+{}
+
+/// Each formed part is read as what may stand there: a type, a value, a statement.
+pub fn parts_are_read()
+    ensures types { TypesAreRead }
+    ensures values { ValuesAreRead }
+    ensures statements { StatementsAreRead }
+{}
