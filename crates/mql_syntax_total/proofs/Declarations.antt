@@ -180,7 +180,7 @@ module _ (tokens : List (Token × Span)) (n : ℕ) where
   unfolding function_worded class_number form_number
   worded_where ws = pointed_typed (λ t. function_typed ws t.0 t.1) (more_variables ∷ semicolon) refl refl refl (λ t b v g. titled_where ws (Some (record { type = t; pointer = b })) (g, v))
 
-  abbrev variable_rows : List ℕ → List Expression
+  abbrev pub variable_rows : List ℕ → List Expression
   variable_rows ds = many (part ds []) ∷ pointed_alone ∷ more_variables ∷ semicolon
 
   -- variables that are seen as a function

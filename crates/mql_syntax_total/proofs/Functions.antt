@@ -142,7 +142,7 @@ module _ (tokens : List (Token × Span)) (n : ℕ) where
     pub sizes : Every (If (ValuePart tokens n)) (sizes_from None p.dimensions)
     pub preset : If (ValuePart tokens n) p.preset
 
-  preset_some : Gives ⊥ Good (If (ValuePart tokens n)) preset_of (a class.Assign ∷ expr ∷ [])
+  pub preset_some : Gives ⊥ Good (If (ValuePart tokens n)) preset_of (a class.Assign ∷ expr ∷ [])
   unfolding preset_of class_number form_number
   preset_some = cons_gives preset_of (λ xs. on (sign (class.Assign ∷ []) xs) (λ ys. option_map (λ v. Some v) (last ys))) _ refl (λ x xs. refl)
       (sign_gives _ _ _ _ refl (last_gives value_cs value_fs expr _ refl refl (λ v w g. (g, w))))

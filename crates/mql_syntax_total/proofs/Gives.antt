@@ -191,6 +191,13 @@ pub on_gives : {B C : Type 0} {N : Type 0} {G : Part → Type 0} {Q : C → Type
     → Gives N G R k es → ((b : B) → R b → Held N Q (l b)) → Gives N G Q (λ xs. on (k xs) l) es
 on_gives {N = N} {Q = Q} R k l es st q = record { there = λ xs m g. held_on N R Q (k xs) l (st.there xs m g) q }
 
+pub held_more : {B : Type 0} (N : Type 0) (R Q : B → Type 0) → ((b : B) → R b → Q b) → (o : Option B) → Held N R o → Held N Q o
+held_more N R Q f None h = h
+held_more N R Q f (Some b) h = f b h
+
+pub more_gives : {B : Type 0} {N : Type 0} {G : Part → Type 0} {Q : B → Type 0} (R : B → Type 0) (k : List Part → Option B) (es : List Expression) → ((b : B) → R b → Q b) → Gives N G R k es → Gives N G Q k es
+more_gives {N = N} {Q = Q} R k es f st = record { there = λ xs m g. held_more N R Q f (k xs) (st.there xs m g) }
+
 pub same_gives : {B : Type 0} {N : Type 0} {G : Part → Type 0} {Q : B → Type 0} (k l : List Part → Option B) (es : List Expression) → ((xs : List Part) → k xs ≡ l xs) → Gives N G Q l es → Gives N G Q k es
 same_gives {N = N} {Q = Q} k l es e st = record { there = λ xs m g. subst (Held N Q) (sym (e xs)) (st.there xs m g) }
 

@@ -10,3 +10,5 @@ mod Statements
 mod Parsed
 mod Functions
 mod Declarations
+mod Classes
+mod Programs

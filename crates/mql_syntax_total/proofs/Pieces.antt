@@ -15,7 +15,7 @@ use Rattle.mql_grammar.proofs.Derivatives.{MatchesAll}
 use Rattle.mql_views.specs.Cuts.{on, is}
 use Rattle.mql_views.specs.Laws.{heads}
 use Rattle.mql_views.specs.Parts.{Part}
-use Rattle.mql_views.proofs.Stands.{AllAway, all_away, avoids, away_head, cut_row, cut_map, cut_one, one_part, nothing_left}
+use Rattle.mql_views.proofs.Stands.{AllAway, all_away, avoids, away_head, cut_row, cut_map, cut_one, nothing_left, opened, all_of}
 use Rattle.mql_syntax.specs.Lists.{each, divides, enclosed, last_piece, pieces_from, pieces, without}
 use Rattle.mql_syntax_total.specs.Formed.{Every}
 use Rattle.mql_syntax_total.proofs.Gives.{Has, Among, every_front, every_back, has_on}
@@ -97,40 +97,50 @@ calm_enclosed e h xs m front zs =
     (ap (λ (b : Bool). if b then true else if is (class.CloseParen ∷ []) [] c.0 then false else true) (away_head (34 ∷ []) [] (36 ∷ []) [] c.0.head refl refl c.3) ∙ ap (λ (b : Bool). if b then false else true) c.3)
     ∙ ap (λ us. pieces_from false us zs) (append_assoc (front ++ o.0 ∷ []) r.0 (c.0 ∷ []) ∙ append_assoc front (o.0 ∷ []) (r.0 ++ c.0 ∷ []) ∙ ap (λ us. front ++ us) (sym p))
 
--- the pieces of a list: its first item, and the others behind their commas
+-- the pieces of a list: its first item, and the others behind their commas; behind the last a comma may stand
+abbrev last_comma : List Expression
+last_comma = either nothing (a class.Comma) ∷ []
+
+pub pieces_to : (G : Part → Type 0) (P : List Part → Type 0) (d e : Expression)
+    → ((ys : List Part) → Matches d (heads ys) → Calm ys) → ((ys : List Part) → Matches e (heads ys) → Calm ys)
+    → ((ys : List Part) → Matches d (heads ys) → Every G ys → P ys) → ((ys : List Part) → Matches e (heads ys) → Every G ys → P ys)
+    → (xs : List Part) → MatchesAll (d ∷ many (seq (a class.Comma) e) ∷ last_comma) (heads xs) → Every G xs → Every P (pieces xs)
+unfolding pieces_from is class_number
+pieces_to G P d e cd ce pd pe xs m g =
+    let r = cut_row d (many (seq (a class.Comma) e) ∷ last_comma) xs m in
+    let h = subst (Every G) r.2 g in
+    let n = r.4 in
+    subst (Every P) (sym (ap pieces r.2 ∙ cd r.0 r.3 [] r.1))
+    (rest n.3.0 r.0 (pd r.0 r.3 (every_front G r.0 r.1 h)) r.1 (n.0, n.1, n.2, n.3.1, n.4) (every_back G r.0 r.1 h))
+  where
+    at_end : (front : List Part) → P front → Every P (pieces_from false front [])
+    at_end [] p = tt
+    at_end (x ∷ xs) p = (p, tt)
+    at_comma : (front : List Part) (c : Part) (us : List Part) → among (42 ∷ []) [] c.head ≡ true → pieces_from false front (c ∷ us) ≡ front ∷ pieces_from false [] us
+    at_comma front c us h = ap (λ (b : Bool). if b && not false then front ∷ pieces_from false [] us else pieces_from (enclosed false c) (front ++ c ∷ []) us) h
+    ending : (front : List Part) → P front → (zs : List Part) → MatchesAll last_comma (heads zs) → Every P (pieces_from false front zs)
+    ending front p zs (us, vs, f, inl x, y) = subst (λ us. Every P (pieces_from false front us)) (sym (nothing_left zs (f ∙ ap (λ us. us ++ vs) x ∙ y))) (at_end front p)
+    ending front p zs (us, vs, f, inr x, y) =
+        let c = cut_one (42 ∷ []) [] [] zs (us, vs, f, x, y) in
+        subst (Every P) (sym (ap (λ us. pieces_from false front us) (c.2 ∙ ap (λ us. c.0 ∷ us) (nothing_left c.1 c.4)) ∙ at_comma front c.0 [] c.3)) (p, tt)
+    rest : (n : ℕ) (front : List Part) → P front → (zs : List Part) → InRow (Times n (Matches (seq (a class.Comma) e))) (MatchesAll last_comma) (heads zs) → Every G zs → Every P (pieces_from false front zs)
+    rest zero front p zs m g = ending front p zs (subst (MatchesAll last_comma) (sym (m.2 ∙ ap (λ us. us ++ m.1) m.3)) m.4)
+    rest (suc n) front p zs m g =
+        let r = cut_map zs m.3.0 (m.3.1 ++ m.1) (m.2 ∙ ap (λ us. us ++ m.1) m.3.2 ∙ append_assoc m.3.0 m.3.1 m.1) in
+        let c = cut_one (42 ∷ []) [] (e ∷ []) r.0 (opened (a class.Comma) e [] (heads r.0) (all_of (seq (a class.Comma) e) (heads r.0) (subst (Matches (seq (a class.Comma) e)) (sym r.3) m.3.3))) in
+        let me : Matches e (heads c.1) = subst (Matches e) (sym (c.4.2 ∙ ap (λ us. c.4.0 ++ us) c.4.4 ∙ append-nil c.4.0)) c.4.3 in
+        let q : zs ≡ c.0 ∷ c.1 ++ r.1 = r.2 ∙ ap (λ us. us ++ r.1) c.2 in
+        let h = (subst (Every G) q g).1 in
+        subst (Every P) (sym (ap (λ us. pieces_from false front us) q ∙ at_comma front c.0 (c.1 ++ r.1) c.3 ∙ ap (λ us. front ∷ us) (ce c.1 me [] r.1)))
+        (p, rest n c.1 (pe c.1 me (every_front G c.1 r.1 h)) r.1 (m.3.1, m.1, r.4, m.3.4, m.4) (every_back G c.1 r.1 h))
+
 pub pieces_are : (G : Part → Type 0) (P : List Part → Type 0) (d e : Expression)
     → ((ys : List Part) → Matches d (heads ys) → Calm ys) → ((ys : List Part) → Matches e (heads ys) → Calm ys)
     → ((ys : List Part) → Matches d (heads ys) → Every G ys → P ys) → ((ys : List Part) → Matches e (heads ys) → Every G ys → P ys)
     → (xs : List Part) → MatchesAll (d ∷ many (seq (a class.Comma) e) ∷ []) (heads xs) → Every G xs → Every P (pieces xs)
-unfolding pieces_from is class_number
 pieces_are G P d e cd ce pd pe xs m g =
-    let r = cut_row d (many (seq (a class.Comma) e) ∷ []) xs m in
-    let h = subst (Every G) r.2 g in
-    let s = cut_row (many (seq (a class.Comma) e)) [] r.1 r.4 in
-    let t = s.2 ∙ ap (λ us. s.0 ++ us) (nothing_left s.1 s.4) ∙ append-nil s.0 in
-    subst (Every P) (sym (ap pieces r.2 ∙ cd r.0 r.3 [] r.1))
-    (rest s.3.0 r.0 (pd r.0 r.3 (every_front G r.0 r.1 h)) r.1 (subst (λ us. Times s.3.0 (Matches (seq (a class.Comma) e)) (heads us)) (sym t) s.3.1) (every_back G r.0 r.1 h))
-  where
-    last_so : (front : List Part) → P front → Every P (last_piece front)
-    last_so [] p = tt
-    last_so (x ∷ xs) p = (p, tt)
-    at_end : (front : List Part) → P front → Every P (pieces_from false front [])
-    at_end front p = last_so front p
-    at_comma : (front : List Part) (c : Part) (us : List Part) → among (42 ∷ []) [] c.head ≡ true → pieces_from false front (c ∷ us) ≡ front ∷ pieces_from false [] us
-    at_comma front c us h = ap (λ (b : Bool). if b && not false then front ∷ pieces_from false [] us else pieces_from (enclosed false c) (front ++ c ∷ []) us) h
-    one_comma : (ys : List Part) → Matches (a class.Comma) (heads ys) → (y : Part) × (ys ≡ y ∷ []) × (among (42 ∷ []) [] y.head ≡ true)
-    one_comma ys m = one_part (42 ∷ []) [] ys m
-    rest : (n : ℕ) (front : List Part) → P front → (zs : List Part) → Times n (Matches (seq (a class.Comma) e)) (heads zs) → Every G zs → Every P (pieces_from false front zs)
-    rest zero front p zs m g = subst (λ us. Every P (pieces_from false front us)) (sym (nothing_left zs m)) (at_end front p)
-    rest (suc n) front p zs m g =
-        let r = cut_map zs m.0 m.1 m.2 in
-        let o = cut_map r.0 m.3.0 m.3.1 (r.3 ∙ m.3.2) in
-        let c = one_comma o.0 (subst (Matches (a class.Comma)) (sym o.3) m.3.3) in
-        let q : zs ≡ c.0 ∷ o.1 ++ r.1 = r.2 ∙ ap (λ us. us ++ r.1) (o.2 ∙ ap (λ us. us ++ o.1) c.1) in
-        let h = (subst (Every G) q g).1 in
-        let me = subst (Matches e) (sym o.4) m.3.4 in
-        subst (Every P) (sym (ap (λ us. pieces_from false front us) q ∙ at_comma front c.0 (o.1 ++ r.1) c.2 ∙ ap (λ us. front ∷ us) (ce o.1 me [] r.1)))
-        (p, rest n o.1 (pe o.1 me (every_front G o.1 r.1 h)) r.1 (subst (Times n (Matches (seq (a class.Comma) e))) (sym r.4) m.4) (every_back G o.1 r.1 h))
+    let n = m.4 in
+    pieces_to G P d e cd ce pd pe xs (m.0, m.1, m.2, m.3, (n.0, n.1, n.2, n.3, ([], [], n.4, inl refl, refl))) g
 
 -- what is read of each
 pub each_has : {A B : Type 0} (P : A → Type 0) (Q : B → Type 0) (f : A → Option B) → ((x : A) → P x → Has Q (f x)) → (xs : List A) → Every P xs → Has (Every Q) (each f xs)
@@ -139,7 +149,7 @@ each_has P Q f h (x ∷ xs) p =
     has_on Q (Every Q) (f x) _ (h x p.0) (λ y q. has_on (Every Q) (Every Q) (each f xs) _ (each_has P Q f h xs p.1) (λ ys qs. (q, qs)))
 
 -- the parts of a list without the tokens of some classes
-listed_behind : (c : ℕ) (ws cs : List ℕ) → listed c (ws ++ cs) ≡ true → listed c ws ≡ false → listed c cs ≡ true
+pub listed_behind : (c : ℕ) (ws cs : List ℕ) → listed c (ws ++ cs) ≡ true → listed c ws ≡ false → listed c cs ≡ true
 listed_behind c [] cs h i = h
 listed_behind c (w ∷ ws) cs h i = go (nat_eq w c) h i (listed_behind c ws cs)
   where

@@ -14,9 +14,11 @@ use Rattle.mql_syntax.specs.Values.{value}
 use Rattle.mql_syntax.specs.Types.{type_use}
 use Rattle.mql_syntax_read.specs.Statements.{statement}
 use Rattle.mql_syntax_total.specs.Formed.{Every, IsFormed, is_value, is_type, is_item}
-use Rattle.mql_syntax_total.specs.Laws.{ItemsAreFormed, PartsAreFormed, ValuesAreRead, TypesAreRead, StatementsAreRead}
+use Rattle.mql_syntax_total.specs.Laws.{ItemsAreFormed, PartsAreFormed, ValuesAreRead, TypesAreRead, StatementsAreRead, ProgramsAreRead}
 use Rattle.mql_syntax_total.proofs.Gives.{has_some, Among}
 use Rattle.mql_syntax_total.proofs.Parsed.{item_cs, item_fs, parsed_parts}
+use Rattle.mql_syntax_read.specs.Items.{program}
+use Rattle.mql_syntax_total.proofs.Programs.{program_is_read}
 use Rattle.mql_syntax_total.proofs.Statements.{statement_read}
 use Rattle.mql_syntax_total.proofs.Trees.{inner_formed}
 use Rattle.mql_syntax_total.proofs.Types.{type_read}
@@ -49,3 +51,6 @@ values_are_read tokens n place p f h = has_some (λ x. Unit {0}) (value tokens (
 pub statements_are_read : StatementsAreRead
 unfolding is class_number form_number
 statements_are_read tokens n place p f h = has_some (λ x. Unit {0}) (statement tokens (classes_of tokens) n place p) (statement_read tokens n place p (f, h))
+
+pub programs_are_read : ProgramsAreRead
+programs_are_read tokens t p = has_some (λ x. Unit {0}) (program tokens (classes_of tokens) 200 t) (program_is_read tokens t p)

@@ -47,11 +47,11 @@ abbrev pub statement_fs : List ℕ
 statement_fs = 9 ∷ 10 ∷ 11 ∷ 12 ∷ 13 ∷ 14 ∷ 15 ∷ 16 ∷ 17 ∷ 18 ∷ 19 ∷ 20 ∷ []
 
 -- behind the first part of these stands another, which is none of those
-abbrev seconds_away : List ℕ → List Edge → Bool
+abbrev pub seconds_away : List ℕ → List Edge → Bool
 seconds_away cs [] = true
 seconds_away cs (e ∷ es) = both (both (edges_away cs [] (firsts_all e.rest)) (λ _. elim (nullable_all e.rest) [ true ↦ false | false ↦ true ])) (λ _. seconds_away cs es)
 
-second_part : (cs : List Class) (es : List Expression) → seconds_away (map class_number cs) (firsts_all es) ≡ true → (x : Part) (xs : List Part) → MatchesAll es (heads (x ∷ xs))
+pub second_part : (cs : List Class) (es : List Expression) → seconds_away (map class_number cs) (firsts_all es) ≡ true → (x : Part) (xs : List Part) → MatchesAll es (heads (x ∷ xs))
     → (y : Part) × (zs : List Part) × (xs ≡ y ∷ zs) × (is cs [] y ≡ false)
 second_part cs es d x xs m = go (firsts_all es) d (goes_all es x.head (heads xs) m)
   where

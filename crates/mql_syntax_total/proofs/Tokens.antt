@@ -20,8 +20,10 @@ use Rattle.mql_grammar.specs.declared.token_class.Class.TheVariants as class
 use Rattle.mql_parse.specs.Classes.{Context, is_type, role_class, is_group, is_typename, plain_name_class, behind_dot, name_class, opens_arguments, is_generic, less_class, is_pointer, is_reference, around, int_class, token_class, after, classes_from}
 use Rattle.mql_parse.specs.Spots.{same}
 use Rattle.mql_parse.specs.Words.{class_of_word, class_of_name, word_class, is_supplied, sign_class}
-use Rattle.mql_views.proofs.Stands.{apart, away, inside}
+use Rattle.mql_views.proofs.Stands.{apart, away, within, inside}
 use Rattle.mql_syntax.specs.Leaves.{sign_of}
+use Rattle.mql_syntax_read.specs.Classes.{access_of, kind_of}
+use Rattle.mql_syntax_read.specs.Items.{text_of}
 use Rattle.mql_syntax.specs.Values.{binary_of, assignment_of, unary_of, step_of, word_value, token_value}
 use Rattle.mql_syntax_total.proofs.Gives.{false_true, Has}
 
@@ -42,6 +44,10 @@ odd = 35 ∷ 51 ∷ 55 ∷ 56 ∷ 61 ∷ []
 
 abbrev pub low : List ℕ
 low = 0 ∷ 1 ∷ 2 ∷ 3 ∷ 4 ∷ 5 ∷ 6 ∷ 7 ∷ 8 ∷ 9 ∷ 10 ∷ 11 ∷ 12 ∷ 13 ∷ 14 ∷ 15 ∷ 16 ∷ 17 ∷ 18 ∷ 19 ∷ 20 ∷ 21 ∷ 22 ∷ 23 ∷ 24 ∷ 25 ∷ 26 ∷ 27 ∷ 28 ∷ 29 ∷ 30 ∷ 31 ∷ 32 ∷ 33 ∷ 70 ∷ []
+
+-- the classes that a name or a word may have
+abbrev pub named : List ℕ
+named = 0 ∷ 1 ∷ 2 ∷ 3 ∷ 4 ∷ 7 ∷ 8 ∷ 9 ∷ 10 ∷ 11 ∷ 12 ∷ 13 ∷ 14 ∷ 15 ∷ 16 ∷ 17 ∷ 18 ∷ 19 ∷ 20 ∷ 21 ∷ 22 ∷ 23 ∷ 24 ∷ 25 ∷ 26 ∷ 27 ∷ 28 ∷ 29 ∷ 30 ∷ 31 ∷ 32 ∷ 33 ∷ 70 ∷ []
 
 abbrev pub values : List ℕ
 values = 0 ∷ 1 ∷ 4 ∷ 5 ∷ 6 ∷ 8 ∷ []
@@ -99,7 +105,7 @@ int_among v kind.Ulong = refl
 int_among v kind.Datetime = refl
 int_among v kind.Color = refl
 
-word_low : (w : ReservedWord) → listed (class_number (class_of_word w)) low ≡ true
+word_low : (w : ReservedWord) → listed (class_number (class_of_word w)) named ≡ true
 unfolding class_of_word class_number
 word_low words.Bool = refl
 word_low words.Char = refl
@@ -219,29 +225,33 @@ if_listed : (b : Bool) (c d : Class) (cs : List ℕ) → listed (class_number c)
 if_listed true c d cs h i = h
 if_listed false c d cs h i = i
 
-dot_low : (x : Context) (c : Class) → listed (class_number c) low ≡ true → listed (class_number (behind_dot x.spot c)) low ≡ true
+dot_low : (x : Context) (c : Class) → listed (class_number c) named ≡ true → listed (class_number (behind_dot x.spot c)) named ≡ true
 unfolding class_number
-dot_low x c h = if_listed (same x.spot.before class.Dot && same c class.TypeName) class.Name c low refl h
+dot_low x c h = if_listed (same x.spot.before class.Dot && same c class.TypeName) class.Name c named refl h
 
-plain_low : (x : Context) (name : List ℕ) → listed (class_number (plain_name_class (x.roles name) x.spot name)) low ≡ true
+plain_low : (x : Context) (name : List ℕ) → listed (class_number (plain_name_class (x.roles name) x.spot name)) named ≡ true
 unfolding class_number
 plain_low x name =
-    if_listed (is_group x.spot.before name) class.Group _ low refl
-    (if_listed (is_typename x.spot name) class.Typename _ low refl
-    (if_listed (is_type x.spot (x.roles name)) class.TypeName class.Name low refl refl))
+    if_listed (is_group x.spot.before name) class.Group _ named refl
+    (if_listed (is_typename x.spot name) class.Typename _ named refl
+    (if_listed (is_type x.spot (x.roles name)) class.TypeName class.Name named refl refl))
 
-word_class_low : (x : Context) (name : List ℕ) (o : Option ReservedWord) → listed (class_number (unwrap_or (class_of_name name o) (plain_name_class (x.roles name) x.spot name))) low ≡ true
+word_class_low : (x : Context) (name : List ℕ) (o : Option ReservedWord) → listed (class_number (unwrap_or (class_of_name name o) (plain_name_class (x.roles name) x.spot name))) named ≡ true
 unfolding class_number
 word_class_low x name (Some w) = word_low w
 word_class_low x name None = go (is_supplied name)
   where
-    go : (b : Bool) → listed (class_number (unwrap_or (if b then Some class.TypeName else None) (plain_name_class (x.roles name) x.spot name))) low ≡ true
+    go : (b : Bool) → listed (class_number (unwrap_or (if b then Some class.TypeName else None) (plain_name_class (x.roles name) x.spot name))) named ≡ true
     go true = refl
     go false = plain_low x name
 
-name_low : (x : Context) (name : List ℕ) → listed (class_number (name_class (x.roles name) x.spot name)) low ≡ true
+pub name_named : (x : Context) (name : List ℕ) → listed (class_number (name_class (x.roles name) x.spot name)) named ≡ true
 unfolding name_class word_class
-name_low x name = dot_low x (unwrap_or (class_of_name name (reserved_word name)) (plain_name_class (x.roles name) x.spot name)) (word_class_low x name (reserved_word name))
+name_named x name = dot_low x (unwrap_or (class_of_name name (reserved_word name)) (plain_name_class (x.roles name) x.spot name)) (word_class_low x name (reserved_word name))
+
+name_low : (x : Context) (name : List ℕ) → listed (class_number (name_class (x.roles name) x.spot name)) low ≡ true
+unfolding class_number
+name_low x name = inside (class_number (name_class (x.roles name) x.spot name)) named low refl (name_named x name)
 
 -- no sign has the class of a name or of a value
 sign_not : (s : Sign) → listed (class_number (sign_class s)) low ≡ true → listed (class_number (sign_class s)) (70 ∷ []) ≡ true
@@ -600,3 +610,164 @@ step_was signs.Increment h = tt
 step_was signs.Decrement h = tt
 step_was signs.Hash h = false_true h
 
+
+-- a token of a word's class is that word
+plain_only : (x : Context) (name : List ℕ) → listed (class_number (plain_name_class (x.roles name) x.spot name)) (0 ∷ 1 ∷ 7 ∷ 14 ∷ []) ≡ true
+unfolding class_number
+plain_only x name =
+    if_listed (is_group x.spot.before name) class.Group _ (0 ∷ 1 ∷ 7 ∷ 14 ∷ []) refl
+    (if_listed (is_typename x.spot name) class.Typename _ (0 ∷ 1 ∷ 7 ∷ 14 ∷ []) refl
+    (if_listed (is_type x.spot (x.roles name)) class.TypeName class.Name (0 ∷ 1 ∷ 7 ∷ 14 ∷ []) refl refl))
+
+none_only : (x : Context) (name : List ℕ) → listed (class_number (behind_dot x.spot (unwrap_or (class_of_name name None) (plain_name_class (x.roles name) x.spot name)))) (0 ∷ 1 ∷ 7 ∷ 14 ∷ []) ≡ true
+unfolding class_number
+none_only x name = dotted (unwrap_or (class_of_name name None) (plain_name_class (x.roles name) x.spot name)) (go (is_supplied name))
+  where
+    dotted : (c : Class) → listed (class_number c) (0 ∷ 1 ∷ 7 ∷ 14 ∷ []) ≡ true → listed (class_number (behind_dot x.spot c)) (0 ∷ 1 ∷ 7 ∷ 14 ∷ []) ≡ true
+    dotted c h = if_listed (same x.spot.before class.Dot && same c class.TypeName) class.Name c (0 ∷ 1 ∷ 7 ∷ 14 ∷ []) refl h
+    go : (b : Bool) → listed (class_number (unwrap_or (if b then Some class.TypeName else None) (plain_name_class (x.roles name) x.spot name))) (0 ∷ 1 ∷ 7 ∷ 14 ∷ []) ≡ true
+    go true = refl
+    go false = plain_only x name
+
+abbrev pub WordOf : List ℕ → Option ReservedWord → Type 0
+WordOf cs o = Has (λ w. listed (class_number (class_of_word w)) cs ≡ true) o
+
+word_name : (x : Context) (name : List ℕ) (o : Option ReservedWord) (cs : List ℕ) → apart cs (0 ∷ 1 ∷ 7 ∷ 14 ∷ []) ≡ true
+    → listed (class_number (behind_dot x.spot (unwrap_or (class_of_name name o) (plain_name_class (x.roles name) x.spot name)))) cs ≡ true → WordOf cs o
+word_name x name None cs d h = apart_both (class_number (behind_dot x.spot (unwrap_or (class_of_name name None) (plain_name_class (x.roles name) x.spot name)))) cs (0 ∷ 1 ∷ 7 ∷ 14 ∷ []) d h (none_only x name)
+word_name x name (Some w) cs d h = subst (λ c. listed (class_number c) cs ≡ true) (dot_keeps x (class_of_word w) (word_type w)) h
+
+pub word_there : (x : Context) (t : Token) (rest : List (Token × Span)) (cs : List ℕ) → apart cs (0 ∷ 1 ∷ 7 ∷ 14 ∷ []) ≡ true → apart cs (4 ∷ 5 ∷ 6 ∷ []) ≡ true → apart cs (70 ∷ []) ≡ true → apart cs odd ≡ true → within cs low ≡ true
+    → listed (class_number (token_class x t rest)) cs ≡ true → Has (λ n. WordOf cs (reserved_word n)) (name_of t)
+unfolding class_number name_class word_class
+word_there x (token.Name name) rest cs d e f o l h = word_name x name (reserved_word name) cs d h
+word_there x (token.Int v k) rest cs d e f o l h = apart_both (class_number (int_class v k)) cs (4 ∷ 5 ∷ 6 ∷ []) e h (inside (class_number (int_class v k)) (4 ∷ 5 ∷ []) (4 ∷ 5 ∷ 6 ∷ []) refl (int_among v k))
+word_there x (token.Double v) rest cs d e f o l h = apart_both 4 cs (4 ∷ 5 ∷ 6 ∷ []) e h refl
+word_there x (token.Str text) rest cs d e f o l h = apart_both 6 cs (4 ∷ 5 ∷ 6 ∷ []) e h refl
+word_there x (token.Sign s) rest cs d e f o l h =
+    let i = around_was x rest (sign_class s) cs o h in
+    apart_both (class_number (sign_class s)) cs (70 ∷ []) f i (sign_not s (inside (class_number (sign_class s)) cs low l i))
+word_there x (token.IncludeName name place) rest cs d e f o l h = apart_both 70 cs (70 ∷ []) f h refl
+word_there x token.LineEnd rest cs d e f o l h = apart_both 70 cs (70 ∷ []) f h refl
+
+-- the kinds of classes, and who may reach members
+pub kind_was : (w : ReservedWord) → listed (class_number (class_of_word w)) (16 ∷ []) ≡ true → Is (kind_of w)
+unfolding class_of_word class_number kind_of
+kind_was words.Bool h = false_true h
+kind_was words.Char h = false_true h
+kind_was words.Uchar h = false_true h
+kind_was words.Short h = false_true h
+kind_was words.Ushort h = false_true h
+kind_was words.Int h = false_true h
+kind_was words.Uint h = false_true h
+kind_was words.Long h = false_true h
+kind_was words.Ulong h = false_true h
+kind_was words.Datetime h = false_true h
+kind_was words.Color h = false_true h
+kind_was words.Double h = false_true h
+kind_was words.String h = false_true h
+kind_was words.Void h = false_true h
+kind_was words.True h = false_true h
+kind_was words.False h = false_true h
+kind_was words.Null h = false_true h
+kind_was words.This h = false_true h
+kind_was words.Input h = false_true h
+kind_was words.StaticInput h = false_true h
+kind_was words.Static h = false_true h
+kind_was words.Const h = false_true h
+kind_was words.Template h = false_true h
+kind_was words.Enum h = false_true h
+kind_was words.Class h = tt
+kind_was words.Struct h = tt
+kind_was words.Interface h = tt
+kind_was words.Public h = false_true h
+kind_was words.Protected h = false_true h
+kind_was words.Private h = false_true h
+kind_was words.Virtual h = false_true h
+kind_was words.Override h = false_true h
+kind_was words.If h = false_true h
+kind_was words.Else h = false_true h
+kind_was words.While h = false_true h
+kind_was words.Do h = false_true h
+kind_was words.For h = false_true h
+kind_was words.Switch h = false_true h
+kind_was words.Case h = false_true h
+kind_was words.Default h = false_true h
+kind_was words.Break h = false_true h
+kind_was words.Continue h = false_true h
+kind_was words.Return h = false_true h
+kind_was words.Delete h = false_true h
+kind_was words.New h = false_true h
+kind_was words.DynamicCast h = false_true h
+kind_was words.Float h = false_true h
+kind_was words.Union h = false_true h
+kind_was words.Sizeof h = false_true h
+kind_was words.Operator h = false_true h
+kind_was words.Namespace h = false_true h
+
+pub access_was : (w : ReservedWord) → listed (class_number (class_of_word w)) (17 ∷ []) ≡ true → Is (access_of w)
+unfolding class_of_word class_number access_of
+access_was words.Bool h = false_true h
+access_was words.Char h = false_true h
+access_was words.Uchar h = false_true h
+access_was words.Short h = false_true h
+access_was words.Ushort h = false_true h
+access_was words.Int h = false_true h
+access_was words.Uint h = false_true h
+access_was words.Long h = false_true h
+access_was words.Ulong h = false_true h
+access_was words.Datetime h = false_true h
+access_was words.Color h = false_true h
+access_was words.Double h = false_true h
+access_was words.String h = false_true h
+access_was words.Void h = false_true h
+access_was words.True h = false_true h
+access_was words.False h = false_true h
+access_was words.Null h = false_true h
+access_was words.This h = false_true h
+access_was words.Input h = false_true h
+access_was words.StaticInput h = false_true h
+access_was words.Static h = false_true h
+access_was words.Const h = false_true h
+access_was words.Template h = false_true h
+access_was words.Enum h = false_true h
+access_was words.Class h = false_true h
+access_was words.Struct h = false_true h
+access_was words.Interface h = false_true h
+access_was words.Public h = tt
+access_was words.Protected h = tt
+access_was words.Private h = tt
+access_was words.Virtual h = false_true h
+access_was words.Override h = false_true h
+access_was words.If h = false_true h
+access_was words.Else h = false_true h
+access_was words.While h = false_true h
+access_was words.Do h = false_true h
+access_was words.For h = false_true h
+access_was words.Switch h = false_true h
+access_was words.Case h = false_true h
+access_was words.Default h = false_true h
+access_was words.Break h = false_true h
+access_was words.Continue h = false_true h
+access_was words.Return h = false_true h
+access_was words.Delete h = false_true h
+access_was words.New h = false_true h
+access_was words.DynamicCast h = false_true h
+access_was words.Float h = false_true h
+access_was words.Union h = false_true h
+access_was words.Sizeof h = false_true h
+access_was words.Operator h = false_true h
+access_was words.Namespace h = false_true h
+
+-- a token of a string's class is one
+pub text_was : (x : Context) (t : Token) (rest : List (Token × Span)) → listed (class_number (token_class x t rest)) (6 ∷ []) ≡ true → Is (text_of t)
+unfolding class_number
+text_was x (token.Name name) rest h = apart_both (class_number (name_class (x.roles name) x.spot name)) (6 ∷ []) named refl h (name_named x name)
+text_was x (token.Int v k) rest h = apart_both (class_number (int_class v k)) (6 ∷ []) (4 ∷ 5 ∷ []) refl h (int_among v k)
+text_was x (token.Double v) rest h = false_true h
+text_was x (token.Str text) rest h = tt
+text_was x (token.Sign s) rest h =
+    let i = around_was x rest (sign_class s) (6 ∷ []) refl h in
+    apart_both (class_number (sign_class s)) (6 ∷ []) (70 ∷ []) refl i (sign_not s (inside (class_number (sign_class s)) (6 ∷ []) low refl i))
+text_was x (token.IncludeName name place) rest h = false_true h
+text_was x token.LineEnd rest h = false_true h

@@ -304,20 +304,20 @@ module _ (tokens : List (Token × Span)) (n : ℕ) where
 
 -- variables are read
 module _ (tokens : List (Token × Span)) (n : ℕ) (place : Place) where
-  size_read : (o : Option Part) → If (ValuePart tokens n) o → Is (dimension tokens (classes_of tokens) n place o)
+  pub size_read : (o : Option Part) → If (ValuePart tokens n) o → Is (dimension tokens (classes_of tokens) n place o)
   size_read None h = tt
   size_read (Some p) h = has_map (λ x. Unit {0}) _ (value tokens (classes_of tokens) n place p) (value_read tokens n place p h)
 
   pub values_read : (ps : List Part) → Every (ValuePart tokens n) ps → Is (each (value tokens (classes_of tokens) n place) ps)
   values_read ps g = (each_is (ValuePart tokens n) (value tokens (classes_of tokens) n place) (λ p g. value_read tokens n place p g) ps g)
 
-  start_read : (s : views.Start) → StartGood tokens n s → Is (start tokens (classes_of tokens) n place s)
+  pub start_read : (s : views.Start) → StartGood tokens n s → Is (start tokens (classes_of tokens) n place s)
   unfolding start
   start_read views.Zero h = tt
   start_read (views.Value v) h = has_map (λ x. Unit {0}) _ (value tokens (classes_of tokens) n place v) (value_read tokens n place v h)
   start_read (views.Arguments xs) h = has_map (λ x. Unit {0}) _ (each (value tokens (classes_of tokens) n place) (items xs)) (values_read (items xs) h)
 
-  scope_read : (o : Option Part) → If (λ p. IsFormed tokens n p × Among name_cs [] p) o → Is (maybe_read (name tokens) o)
+  pub scope_read : (o : Option Part) → If (λ p. IsFormed tokens n p × Among name_cs [] p) o → Is (maybe_read (name tokens) o)
   scope_read None h = tt
   scope_read (Some p) h = has_map (λ x. Unit {0}) _ (name tokens p) (is_name tokens n p h)
 

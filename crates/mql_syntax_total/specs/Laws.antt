@@ -15,6 +15,7 @@ use Rattle.mql_syntax.specs.Leaves.{part_from, inner}
 use Rattle.mql_syntax.specs.declared.kind.Place.{Place}
 use Rattle.mql_syntax.specs.Types.{type_use}
 use Rattle.mql_syntax.specs.Values.{value}
+use Rattle.mql_syntax_read.specs.Items.{program}
 use Rattle.mql_syntax_read.specs.Statements.{statement}
 use Rattle.mql_syntax_total.specs.Formed.{Every, IsFormed, is_type, is_value, is_statement, is_item}
 
@@ -46,3 +47,8 @@ abbrev pub StatementsAreRead : Type 0
 StatementsAreRead = (tokens : List (Token × Span)) (n : ℕ) (place : Place) (p : Part) →
     IsFormed tokens n p → is_statement p ≡ true →
     is_some (statement tokens (classes_of tokens) n place p) ≡ true
+
+-- and each tree that the parser answers is read as a program
+abbrev pub ProgramsAreRead : Type 0
+ProgramsAreRead = (tokens : List (Token × Span)) (t : Tree) → IsParsed tokens (Ok t) →
+    is_some (program tokens (classes_of tokens) 200 t) ≡ true

@@ -1,5 +1,5 @@
 //! The laws of reading. These functions do nothing: each one's contract is its law.
-ghost use Rattle.mql_syntax_total.specs.Laws.{TypesAreRead, ValuesAreRead, StatementsAreRead, PartsAreFormed, ItemsAreFormed};
+ghost use Rattle.mql_syntax_total.specs.Laws.{TypesAreRead, ValuesAreRead, StatementsAreRead, PartsAreFormed, ItemsAreFormed, ProgramsAreRead};
 
 /// The parts of a program are formed, and so are the parts of each formed part.
 pub fn parts_are_formed()
@@ -12,4 +12,9 @@ pub fn parts_are_read()
     ensures types { TypesAreRead }
     ensures values { ValuesAreRead }
     ensures statements { StatementsAreRead }
+{}
+
+/// Each tree that the parser answers is read as a program.
+pub fn programs_are_read()
+    ensures { ProgramsAreRead }
 {}

@@ -3,4 +3,4 @@
 
 mod laws;
 
-pub use laws::{parts_are_formed, parts_are_read};
+pub use laws::{parts_are_formed, parts_are_read, programs_are_read};
