@@ -69,6 +69,7 @@ module _ (tokens : List (Token × Span)) (n : ℕ) where
     where
       calm : (ys : List Part) → Matches member_of_enumeration (heads ys) → Calm ys
       calm = calm_of member_of_enumeration refl refl refl
+
       piece : (ys : List Part) → Matches member_of_enumeration (heads ys) → Every Good ys → EnumeratorPiece ys
       piece ys m g = enumerator_gives.there ys (flattened member_of_enumeration [] (heads ys) (all_of member_of_enumeration (heads ys) m)) g
 
@@ -152,8 +153,8 @@ module _ (tokens : List (Token × Span)) (n : ℕ) where
         let r = cut_one (0 ∷ 1 ∷ []) (4 ∷ 21 ∷ []) class_rows xs m in
         let own = subst (Every Good) r.2 g in
         subst (Has ClassGood) (sym (
-          ap (λ xs. on (parent_behind (o, xs)) (with_members k x)) r.2
-          ∙ ap (λ (b : Bool). on (option_map (λ (t : Part × List Part). (Some (record { access = o; type = t.0 }), t.1)) (if b then Some (r.0, r.1) else None)) (with_members k x)) r.3
+        ap (λ xs. on (parent_behind (o, xs)) (with_members k x)) r.2
+        ∙ ap (λ (b : Bool). on (option_map (λ (t : Part × List Part). (Some (record { access = o; type = t.0 }), t.1)) (if b then Some (r.0, r.1) else None)) (with_members k x)) r.3
         ))
         ((members_behind k x hk hx (Some (record { access = o; type = r.0 })) (record { access = ho; typed = (own.0, among_more type_cs type_fs (0 ∷ 1 ∷ []) (4 ∷ 21 ∷ []) r.0 refl refl r.3) })).there r.1 r.4 own.1);
   }
@@ -164,14 +165,15 @@ module _ (tokens : List (Token × Span)) (n : ℕ) where
     there = λ xs m g.
         let r = cut_one (44 ∷ []) [] (maybe (a class.Access) ∷ one names (form.GenericType ∷ form.GenericFunction ∷ []) ∷ class_rows) xs m in
         subst (Has ClassGood) (sym (
-          ap (λ xs. on (parent_cut xs) (with_members k x)) r.2
-          ∙ ap (λ (b : Bool). on (if b then parent_behind (may_be (class.Access ∷ []) r.1) else Some (None, r.0 ∷ r.1)) (with_members k x)) r.3
+        ap (λ xs. on (parent_cut xs) (with_members k x)) r.2
+        ∙ ap (λ (b : Bool). on (if b then parent_behind (may_be (class.Access ∷ []) r.1) else Some (None, r.0 ∷ r.1)) (with_members k x)) r.3
         )) (access_gives.there r.1 r.4 (subst (Every Good) r.2 g).1);
   }
     where
       no_access : (xs : List Part) → MatchesAll (one names (form.GenericType ∷ form.GenericFunction ∷ []) ∷ class_rows) (heads xs) → may_be (class.Access ∷ []) xs ≡ (None, xs)
       no_access [] m = refl
       no_access (x ∷ xs) m = ap (λ (b : Bool). if b then (Some x, xs) else (None, x ∷ xs)) (front_away (class.Access ∷ []) (one names (form.GenericType ∷ form.GenericFunction ∷ []) ∷ class_rows) refl x xs m)
+
       access_gives : Gives ⊥ Good ClassGood (λ xs. on (parent_behind (may_be (class.Access ∷ []) xs)) (with_members k x)) (maybe (a class.Access) ∷ one names (form.GenericType ∷ form.GenericFunction ∷ []) ∷ class_rows)
       access_gives = maybe_gives _ _ _
           (record { there = λ xs m g. subst (Has ClassGood) (sym (ap (λ p. on (parent_behind p) (with_members k x)) (no_access xs m))) ((parent_typed k x hk hx None tt).there xs m g) })
@@ -180,8 +182,8 @@ module _ (tokens : List (Token × Span)) (n : ℕ) where
                 let r = cut_one (17 ∷ []) [] (one names (form.GenericType ∷ form.GenericFunction ∷ []) ∷ class_rows) xs m in
                 let own = subst (Every Good) r.2 g in
                 subst (Has ClassGood) (sym (
-                  ap (λ xs. on (parent_behind (may_be (class.Access ∷ []) xs)) (with_members k x)) r.2
-                  ∙ ap (λ (b : Bool). on (parent_behind (if b then (Some r.0, r.1) else (None, r.0 ∷ r.1))) (with_members k x)) r.3
+                ap (λ xs. on (parent_behind (may_be (class.Access ∷ []) xs)) (with_members k x)) r.2
+                ∙ ap (λ (b : Bool). on (parent_behind (if b then (Some r.0, r.1) else (None, r.0 ∷ r.1))) (with_members k x)) r.3
                 )) ((parent_typed k x hk hx (Some r.0) (own.0, r.3)).there r.1 r.4 own.1);
           })
 
@@ -257,8 +259,8 @@ module _ (tokens : List (Token × Span)) (n : ℕ) where
     there = λ xs m g.
         let r = cut_one [] (7 ∷ []) [] xs m in
         subst (Has TemplatedGood) (sym (
-          ap templated (r.2 ∙ ap (λ zs. r.0 ∷ zs) (nothing_left r.1 r.4))
-          ∙ ap (λ (b : Bool). elim (let o : Option (Part × List Part) = (if b then Some (r.0, []) else None) in on o (λ c. ended c.0 c.1)) [ Some c ↦ Some (TemplatedClass c) | None ↦ option_map TemplatedFunction (function (r.0 ∷ [])) ]) r.3
+        ap templated (r.2 ∙ ap (λ zs. r.0 ∷ zs) (nothing_left r.1 r.4))
+        ∙ ap (λ (b : Bool). elim (let o : Option (Part × List Part) = (if b then Some (r.0, []) else None) in on o (λ c. ended c.0 c.1)) [ Some c ↦ Some (TemplatedClass c) | None ↦ option_map TemplatedFunction (function (r.0 ∷ [])) ]) r.3
         )) ((subst (Every Good) r.2 g).0, r.3);
   }
 
@@ -281,6 +283,7 @@ module _ (tokens : List (Token × Span)) (n : ℕ) where
     where
       lone_good : (xs : List Part) → Every Good xs → Held (Unit {0}) (λ c. IsFormed tokens n c × Among [] (7 ∷ []) c) (lone_class xs)
       lone_good xs g = lone_where xs g
+
       go : (xs : List Part) (c : Option Part) → Held (Unit {0}) (λ c. IsFormed tokens n c × Among [] (7 ∷ []) c) c → (f : Option Function) → Has (FunctionGood tokens n) f
           → Has TemplatedGood (elim c [ Some c ↦ Some (TemplatedClass c) | None ↦ option_map TemplatedFunction f ])
       go xs (Some c) hc f hf = hc
@@ -305,6 +308,7 @@ module _ (tokens : List (Token × Span)) (n : ℕ) where
       lift : (o : Option Declaration) → Has (DeclarationGood tokens n) o → Has (λ d. MemberGood (record { params = []; declares = d })) o
       lift None h = absurd h
       lift (Some d) h = record { params = tt; declares = h }
+
       go : (xs : List Part) → MatchesAll es (heads xs) → Every Good xs → Has MemberGood (member xs)
       go [] m g = false_true (sym e ∙ all_empty es m)
       go (x ∷ xs) m g =
@@ -318,8 +322,8 @@ module _ (tokens : List (Token × Span)) (n : ℕ) where
         let w = opened (a class.Template) (in_order (a class.Less ∷ type_names ∷ a class.Greater ∷ [])) (function_parts ∷ []) (heads xs) m in
         let r = cut_one (13 ∷ []) [] (in_order (a class.Less ∷ type_names ∷ a class.Greater ∷ []) ∷ function_parts ∷ []) xs w in
         subst (Has MemberGood) (sym (
-          ap member r.2
-          ∙ ap (λ (b : Bool). if b then member_template (r.0 ∷ r.1) else option_map (λ d. record { params = []; declares = d }) (declaration local_words (r.0 ∷ r.1))) r.3
+        ap member r.2
+        ∙ ap (λ (b : Bool). if b then member_template (r.0 ∷ r.1) else option_map (λ d. record { params = []; declares = d }) (declaration local_words (r.0 ∷ r.1))) r.3
         )) (subst (λ xs. Has MemberGood (member_template xs)) r.2 (template_member.there xs m g));
   }
     where
@@ -340,6 +344,7 @@ module _ (tokens : List (Token × Span)) (n : ℕ) where
     where
       one_word : (u : Head) → among (c ∷ []) [] u ≡ true → among ds [] u ≡ true
       one_word u x = inside_head ds [] (c ∷ []) [] u (ap (λ (b : Bool). both b (λ _. true)) h) refl x
+
       word : (us : List Head) → IsOne (c ∷ []) [] us → IsOne ds [] us
       word [] x = absurd x
       word (u ∷ []) x = one_word u x

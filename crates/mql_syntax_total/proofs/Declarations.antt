@@ -67,17 +67,19 @@ stopped : (Q : Function → Type 0) (ds : List ℕ) (es : List Expression) → w
 unfolding function_worded function_typed function_named is_typed scoped is must may class_number form_number
 stopped Q ds es h d ys x zs v m =
     subst (Where Q) (sym (
-      ap (λ t. function_typed ys t.0 t.1) (typed_not (x ∷ zs) (untyped zs))
-      ∙ ap (λ s. let d = may (class.Tilde ∷ []) s.1 in function_named ys None s.0 d.0 d.1) (unscoped zs m)
-      ∙ ap (λ (b : Bool). let d : Bool × List Part = (if b then (true, zs) else (false, x ∷ zs)) in function_named ys None None d.0 d.1) (away_head (47 ∷ []) [] (9 ∷ 10 ∷ 11 ∷ 12 ∷ []) [] x.head refl refl word)
-      ∙ ap (λ (b : Bool). let o : Option (Part × List Part) = (if b then Some (x, zs) else None) in on o (λ n. on (sign (class.OpenParen ∷ []) n.1) (function_params (record { words = ys; result = None; scope = None; destructor = false; name = n.0 })))) (away_head (0 ∷ 1 ∷ []) [] (9 ∷ 10 ∷ 11 ∷ 12 ∷ []) [] x.head refl refl word)
+    ap (λ t. function_typed ys t.0 t.1) (typed_not (x ∷ zs) (untyped zs))
+    ∙ ap (λ s. let d = may (class.Tilde ∷ []) s.1 in function_named ys None s.0 d.0 d.1) (unscoped zs m)
+    ∙ ap (λ (b : Bool). let d : Bool × List Part = (if b then (true, zs) else (false, x ∷ zs)) in function_named ys None None d.0 d.1) (away_head (47 ∷ []) [] (9 ∷ 10 ∷ 11 ∷ 12 ∷ []) [] x.head refl refl word)
+    ∙ ap (λ (b : Bool). let o : Option (Part × List Part) = (if b then Some (x, zs) else None) in on o (λ n. on (sign (class.OpenParen ∷ []) n.1) (function_params (record { words = ys; result = None; scope = None; destructor = false; name = n.0 })))) (away_head (0 ∷ 1 ∷ []) [] (9 ∷ 10 ∷ 11 ∷ 12 ∷ []) [] x.head refl refl word)
     )) tt
   where
     word : Among (9 ∷ 10 ∷ 11 ∷ 12 ∷ []) [] x
     word = inside_head (9 ∷ 10 ∷ 11 ∷ 12 ∷ []) [] ds [] x.head h refl v
+
     untyped : (zs : List Part) → is_typed (x ∷ zs) ≡ false
     untyped [] = refl
     untyped (s ∷ us) = ap (λ (b : Bool). b && is (class.Tilde ∷ stars ++ (class.Name ∷ class.TypeName ∷ [])) [] s) (away_head (1 ∷ 2 ∷ 3 ∷ []) (4 ∷ []) (9 ∷ 10 ∷ 11 ∷ 12 ∷ []) [] x.head refl refl word)
+
     unscoped : (zs : List Part) → MatchesAll (many (part ds []) ∷ es) (heads zs) → scoped (x ∷ zs) ≡ (None, x ∷ zs)
     unscoped [] m = refl
     unscoped (s ∷ us) m = ap (λ (b : Bool). if b then (Some x, us) else (None, x ∷ s ∷ us)) (front_away (class.DoubleColon ∷ []) (many (part ds []) ∷ es) d s us m)
@@ -103,6 +105,7 @@ values_no_params x y us v w =
     step z zs o c =
         ap (λ (b : Bool). if b then 1 + piece_end true zs else if is (class.CloseParen ∷ []) [] z then 1 + piece_end false zs else (if is (class.Comma ∷ []) [] z then 0 else 1 + piece_end false zs)) o
         ∙ ap (λ (b : Bool). if b then 1 + piece_end false zs else (if is (class.Comma ∷ []) [] z then 0 else 1 + piece_end false zs)) c
+
     ends : piece_end false (x ∷ y ∷ us) ≡ 1
     ends = step x (y ∷ us) (away_head (34 ∷ []) [] value_cs value_fs x.head refl refl v) (away_head (36 ∷ []) [] value_cs value_fs x.head refl refl v)
         ∙ ap (λ (b : Bool). if b then 0 else 1 + piece_end false (y ∷ us)) (away_head (42 ∷ []) [] value_cs value_fs x.head refl refl v)
@@ -134,6 +137,7 @@ module _ (tokens : List (Token × Span)) (n : ℕ) where
     where
       head_of : (x y : Part) (us : List Part) (z : Part) (zs : List Part) → x ∷ y ∷ us ≡ z ∷ zs → x ≡ z
       head_of x y us z zs e = cc
+
       tail_of : (x y : Part) (us : List Part) (z : Part) (zs : List Part) → x ∷ y ∷ us ≡ z ∷ zs → y ∷ us ≡ zs
       tail_of x y us z zs e = cc
 
@@ -158,6 +162,7 @@ module _ (tokens : List (Token × Span)) (n : ℕ) where
       behind h xs o (inr (inr (inr (inl g)))) = false_true (sym (away_head (42 ∷ []) [] (34 ∷ []) [] h refl refl o) ∙ g.0)
       behind h xs o (inr (inr (inr (inr (inl g))))) = false_true (sym (away_head (41 ∷ []) [] (34 ∷ []) [] h refl refl o) ∙ g.0)
       behind h xs o (inr (inr (inr (inr (inr g))))) = absurd g
+
       go : (xs : List Part) → MatchesAll name_rows (heads xs) → Every Good xs → Where (FunctionGood tokens n) (on (sign (class.OpenParen ∷ []) xs) (function_params t))
       go [] m g = tt
       go (x ∷ xs) m g = here (among (34 ∷ []) [] x.head) refl
@@ -228,6 +233,7 @@ module _ (tokens : List (Token × Span)) (n : ℕ) where
     where
       whole : (xs : List Part) → MatchesAll (function_parts ∷ []) (heads xs) → Matches function_parts (heads xs)
       whole xs m = subst (Matches function_parts) (sym (m.2 ∙ ap (λ us. m.0 ++ us) m.4 ∙ append-nil m.0)) m.3
+
       go : (xs : List Part) (o : Option Function) → Has (FunctionGood tokens n) o → Has DeclarationGood (elim o [ Some f ↦ Some (OfFunction f) | None ↦ option_map OfVariables (only_variables words xs) ])
       go xs None h = absurd h
       go xs (Some f) h = h

@@ -62,12 +62,14 @@ typed_gives {N = N} {G = G} {Q = Q} k ds gs ss es h i j away near n st = record 
   where
     star_behind : (s : Part) → among ss [] s.head ≡ true → among (map class_number behind_types) [] s.head ≡ true
     star_behind s f = inside_head (47 ∷ 50 ∷ 51 ∷ 0 ∷ 1 ∷ []) [] (50 ∷ 51 ∷ []) [] s.head refl refl (inside_head (50 ∷ 51 ∷ []) [] ss [] s.head j refl f)
+
     plain : (t : Part) (zs : List Part) → Among ds gs t → G t → MatchesAll es (heads zs) → Every G zs → Held N Q (k (typed (t ∷ zs)))
     plain t [] v w m g = false_true (sym n ∙ all_empty es m)
     plain t (s ∷ us) v w m g =
         subst (Held N Q) (sym (ap (λ p. k p) (typed_is t s us (inside_head (map class_number type_words) (map form_number grammar_forms) ds gs t.head h i v) (front_within behind_types [] es near s us m)
         ∙ ap (λ (p : Bool × List Part). (Some (record { type = t; pointer = p.0 }), p.1)) (may_none stars es away (s ∷ us) m))))
         ((st t false v w).there (s ∷ us) m g)
+
     go : (t : Part) (zs : List Part) → Among ds gs t → G t → MatchesAll (either nothing (part ss []) ∷ es) (heads zs) → Every G zs → Held N Q (k (typed (t ∷ zs)))
     go t zs v w (us, vs, e, inl x, m) g = plain t zs v w (flattened nothing es (heads zs) (us, vs, e, x, m)) g
     go t zs v w (us, vs, e, inr x, m) g =
@@ -338,6 +340,7 @@ module _ (tokens : List (Token × Span)) (n : ℕ) where
       any : {B : Type 0} (o : Option B) → Where (λ x. Unit {0}) o
       any None = tt
       any (Some x) = tt
+
       pure_where : (us : List Part) → Where BodyGood (ended Pure us)
       pure_where [] = tt
       pure_where (u ∷ us) = tt

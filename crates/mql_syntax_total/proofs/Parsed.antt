@@ -54,6 +54,7 @@ same_end (u ∷ us) (t ∷ ts) v h e = λ i. first e i ∷ same_end us ts v h (r
   where
     first : u ∷ (us ++ v ∷ []) ≡ t ∷ (ts ++ h ∷ []) → u ≡ t
     first e = cc
+
     rest : u ∷ (us ++ v ∷ []) ≡ t ∷ (ts ++ h ∷ []) → us ++ v ∷ [] ≡ ts ++ h ∷ []
     rest e = cc
 
@@ -74,9 +75,11 @@ items_begin hs n m = subst (AllAmong item_cs item_fs) (sym m.2) (among_join item
     alone [] m = absurd m
     alone (h ∷ []) m = (m, tt)
     alone (h ∷ k ∷ hs) m = absurd m
+
     times : (n : ℕ) (hs : List Head) → Times n (IsOne item_cs item_fs) hs → AllAmong item_cs item_fs hs
     times zero hs m = subst (AllAmong item_cs item_fs) (sym m) tt
     times (suc n) hs m = subst (AllAmong item_cs item_fs) (sym m.2) (among_join item_cs item_fs m.0 m.1 (alone m.0 m.3) (times n m.1 m.4))
+
     begun : (hs : List Head) → (hs ≡ []) ⊎ IsOne item_cs item_fs hs → AllAmong item_cs item_fs hs
     begun hs (inl e) = subst (AllAmong item_cs item_fs) (sym e) tt
     begun hs (inr m) = alone hs m
@@ -89,6 +92,7 @@ program_items hs (inr m) = go m.1 m.2 m.4
   where
     items : AllAmong item_cs item_fs m.0
     items = all_among item_cs item_fs (many (one (class.Semicolon ∷ []) (form.Item ∷ form.Template ∷ form.Enumeration ∷ form.Class ∷ []))) refl m.0 m.3
+
     go : (vs : List Head) → hs ++ of_class 69 ∷ [] ≡ m.0 ++ vs → (vs ≡ []) ⊎ IsOne (69 ∷ []) [] vs → AllAmong item_cs item_fs hs
     go [] e w = among_front item_cs item_fs hs (of_class 69 ∷ []) (subst (AllAmong item_cs item_fs) (sym (e ∙ append-nil m.0)) items)
     go (v ∷ []) e w = subst (AllAmong item_cs item_fs) (sym (same_end hs m.0 (of_class 69) v e)) items
@@ -116,16 +120,22 @@ parsed_parts tokens t p = go (out-Tree t) refl
   where
     same_form : (a b : ℕ) → of_form a ≡ of_form b → a ≡ b
     same_form a b e = cc
+
     cs : List Class
     cs = classes_of tokens
+
     g : Grammar
     g = over cs
+
     rooted : head g (spine_of t) ≡ of_form 1
     rooted = p.0.rooted
+
     formed : Formed g (add (spine_of t) (leaf (length cs)))
     formed = p.0.whole
+
     marked : parsed_at cs (length cs) ≡ 69
     marked = mark_at cs
+
     go : (x : Tree-F Tree) → out-Tree t ≡ x → (f : Form) × (ts : List Tree) × (out-Tree t ≡ Tree-F.Node f ts) × (form_number f ≡ 1) × Every (IsFormed tokens 200) (parts_in cs (program_part tokens t).at (out-Tree t)) × Every (Among item_cs item_fs) (parts_in cs (program_part tokens t).at (out-Tree t))
     go (Tree-F.Leaf k) e = class_form (parsed_at cs k) 1 (sym (ap (λ s. head g s) (leaf_spine t k e)) ∙ rooted)
     go (Tree-F.Node f ts) e =

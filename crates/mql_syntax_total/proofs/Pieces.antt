@@ -116,13 +116,16 @@ pieces_to G P d e cd ce pd pe xs m g =
     at_end : (front : List Part) → P front → Every P (pieces_from false front [])
     at_end [] p = tt
     at_end (x ∷ xs) p = (p, tt)
+
     at_comma : (front : List Part) (c : Part) (us : List Part) → among (42 ∷ []) [] c.head ≡ true → pieces_from false front (c ∷ us) ≡ front ∷ pieces_from false [] us
     at_comma front c us h = ap (λ (b : Bool). if b && not false then front ∷ pieces_from false [] us else pieces_from (enclosed false c) (front ++ c ∷ []) us) h
+
     ending : (front : List Part) → P front → (zs : List Part) → MatchesAll last_comma (heads zs) → Every P (pieces_from false front zs)
     ending front p zs (us, vs, f, inl x, y) = subst (λ us. Every P (pieces_from false front us)) (sym (nothing_left zs (f ∙ ap (λ us. us ++ vs) x ∙ y))) (at_end front p)
     ending front p zs (us, vs, f, inr x, y) =
         let c = cut_one (42 ∷ []) [] [] zs (us, vs, f, x, y) in
         subst (Every P) (sym (ap (λ us. pieces_from false front us) (c.2 ∙ ap (λ us. c.0 ∷ us) (nothing_left c.1 c.4)) ∙ at_comma front c.0 [] c.3)) (p, tt)
+
     rest : (n : ℕ) (front : List Part) → P front → (zs : List Part) → InRow (Times n (Matches (seq (a class.Comma) e))) (MatchesAll last_comma) (heads zs) → Every G zs → Every P (pieces_from false front zs)
     rest zero front p zs m g = ending front p zs (subst (MatchesAll last_comma) (sym (m.2 ∙ ap (λ us. us ++ m.1) m.3)) m.4)
     rest (suc n) front p zs m g =
@@ -165,6 +168,7 @@ without_among G ws cs fs (x ∷ xs) m g = go (is ws [] x) refl (without_among G 
     other : (h : Head) → among (map class_number ws ++ cs) fs h ≡ true → among (map class_number ws) [] h ≡ false → among cs fs h ≡ true
     other (of_class c) h i = listed_behind c (map class_number ws) cs h i
     other (of_form f) h i = h
+
     go : (b : Bool) → is ws [] x ≡ b → Every (λ p. G p × Among cs fs p) (without ws xs) → Every (λ p. G p × Among cs fs p) (if b then without ws xs else x ∷ without ws xs)
     go true e kept = kept
     go false e kept = ((g.0, other x.head m.0 e), kept)

@@ -37,8 +37,7 @@ use Rattle.mql_syntax.specs.declared.kind.Access.{Access}
 use Rattle.mql_syntax.specs.declared.kind.ClassKind.{ClassKind}
 use Rattle.mql_syntax.specs.declared.kind.Place.{Place}
 use Rattle.mql_syntax_read.specs.Statements.{statement}
-use Rattle.mql_syntax_read.specs.Functions as functions
-use Rattle.mql_syntax_read.specs.Functions.{written, param_words, preset_start, type_names, param_of, param, base_of, base, body, function}
+use Rattle.mql_syntax_read.specs.Functions.{param_words, preset_start, type_names, param_of, param, params_of, base_of, base, body, function}
 use Rattle.mql_syntax_read.specs.Classes.{gathered, access_of, kind_of, first_access, access, kind, accessed, declared, parent, member, members_of, class_of}
 use Rattle.mql_syntax_read.specs.Items as read
 use Rattle.mql_syntax_read.specs.Items.{text_of, text, enumerator_of, enumerator, enumeration, item_of, class_item, templated, template_of, enumeration_item, form_items, items_in, item, item_parts, program_at, program}
@@ -51,7 +50,7 @@ use Rattle.mql_syntax_total.proofs.Types.{TypePart, TypeGood, each_is, type_read
 use Rattle.mql_syntax_total.proofs.Values.{name_cs, ValuePart, is_name, value_read}
 use Rattle.mql_syntax_total.proofs.Variables.{If, NamePart, VariablesGood, size_read, values_read, start_read, scope_read, variables_read}
 use Rattle.mql_syntax_total.proofs.Statements.{statement_read}
-use Rattle.mql_syntax_total.proofs.Functions.{ParamGood, ParamPiece, CallGood, BasePiece, BodyGood, FunctionGood}
+use Rattle.mql_syntax_total.proofs.Functions.{written, ParamGood, ParamPiece, CallGood, BasePiece, BodyGood, FunctionGood}
 use Rattle.mql_syntax_total.proofs.Declarations.{DeclarationGood}
 use Rattle.mql_syntax_total.proofs.Classes.{EnumeratorGood, EnumeratorPiece, EnumerationGood, enumeration_has, ParentGood, MembersGood, ClassGood, class_has, TypeNames, TemplatedGood, TemplateGood, template_has, MemberGood, member_has, ItemGood, item_has}
 use Rattle.mql_syntax_total.proofs.Parsed.{item_cs, item_fs, parsed_parts, program_part}
@@ -115,6 +114,11 @@ module _ (tokens : List (Token × Span)) (n : ℕ) (place : Place) where
       has_map (λ x. Unit {0}) _ (variable_of tokens (classes_of tokens) n place (param_words p.constant) p.typed None p.name p.dimensions (preset_start p.preset))
       (of_is (param_words p.constant) p.typed None p.name p.dimensions (preset_start p.preset) g.typed tt g.named g.sizes (preset_is p.preset g.preset)))
 
+  params_is : (ps : List Part) → Every (ParamPiece tokens n) (pieces (written tokens n ps)) → Is (params_of tokens (classes_of tokens) n place ps)
+  params_is [] g = each_is (ParamPiece tokens n) (param tokens (classes_of tokens) n place) param_is (pieces []) g
+  params_is (v ∷ []) g = tt
+  params_is (v ∷ w ∷ xs) g = each_is (ParamPiece tokens n) (param tokens (classes_of tokens) n place) param_is (pieces (v ∷ w ∷ xs)) g
+
   base_is : (xs : List Part) → BasePiece tokens n xs → Is (base tokens (classes_of tokens) n place xs)
   unfolding base
   base_is xs h = has_on (CallGood tokens n) (λ x. Unit {0}) (call xs) _ h (λ c g.
@@ -137,8 +141,7 @@ module _ (tokens : List (Token × Span)) (n : ℕ) (place : Place) where
       has_on (λ x. Unit {0}) (λ x. Unit {0}) (maybe (type_use tokens (classes_of tokens) n place) f.result) _ (result_is f.result g.result) (λ r _.
       has_on (λ x. Unit {0}) (λ x. Unit {0}) (maybe (name tokens) f.scope) _ (scope_read tokens n place f.scope g.scope) (λ s _.
       has_on (λ x. Unit {0}) (λ x. Unit {0}) (name tokens f.name) _ (is_name tokens n f.name g.named) (λ m _.
-      has_on (λ x. Unit {0}) (λ x. Unit {0}) (each (param tokens (classes_of tokens) n place) (pieces (written f.params))) _
-      (each_is (ParamPiece tokens n) (param tokens (classes_of tokens) n place) param_is (pieces (written f.params)) g.params) (λ ps _.
+      has_on (λ x. Unit {0}) (λ x. Unit {0}) (params_of tokens (classes_of tokens) n place f.params) _ (params_is f.params g.params) (λ ps _.
       has_on (λ x. Unit {0}) (λ x. Unit {0}) (each (base tokens (classes_of tokens) n place) (pieces f.bases)) _
       (each_is (BasePiece tokens n) (base tokens (classes_of tokens) n place) base_is (pieces f.bases) g.bases) (λ bs _.
       has_map (λ x. Unit {0}) _ (body tokens (classes_of tokens) n place f.body) (body_is f.body g.body))))))
@@ -201,6 +204,7 @@ module _ (tokens : List (Token × Span)) (n : ℕ) where
       other : (h : Head) → among (17 ∷ 44 ∷ []) (8 ∷ []) h ≡ true → among (17 ∷ []) [] h ≡ false → among (44 ∷ []) [] h ≡ false → among [] (8 ∷ []) h ≡ true
       other (of_class c) h i j = false_true (sym j ∙ listed_behind c (17 ∷ []) (44 ∷ []) h i)
       other (of_form f) h i j = h
+
       go : (b c : Bool) → is (class.Access ∷ []) [] x ≡ b → is (class.Colon ∷ []) [] x ≡ c → ((a : Access) → Has (Every MemberPart) (accessed tokens a xs))
           → Has (Every MemberPart) (if b then on (access tokens x) (λ b. accessed tokens b xs) else if c then accessed tokens a xs else on (accessed tokens a xs) (λ ms. Some ((a, x) ∷ ms)))
       go true c e f k = has_on (λ x. Unit {0}) (Every MemberPart) (access tokens x) _ (access_is tokens n x g.0.0 e) (λ b _. k b)

@@ -1,5 +1,6 @@
 -- What is read of trees of the parser.
-use Rattle.std.proofs.Common.{◌≡◌, ℕ, suc, true, List, [], ◌∷◌, is_some, refl, sym, subst}
+use Rattle.std.proofs.Common.{◌≡◌, ◌∙◌, ℕ, suc, true, false, List, [], ◌∷◌, Option, None, Result, Ok, is_some, refl, sym, ap, subst}
+use Rattle.mql_parse.specs.Parsed.{IsParsed}
 use Rattle.mql_forms.specs.Numbers.{form_number}
 use Rattle.mql_grammar.specs.Numbers.{class_number}
 use Rattle.mql_parse.specs.Classes.{classes_of}
@@ -15,7 +16,7 @@ use Rattle.mql_syntax.specs.Types.{type_use}
 use Rattle.mql_syntax_read.specs.Statements.{statement}
 use Rattle.mql_syntax_total.specs.Formed.{Every, IsFormed, is_value, is_type, is_item}
 use Rattle.mql_syntax_total.specs.Laws.{ItemsAreFormed, PartsAreFormed, ValuesAreRead, TypesAreRead, StatementsAreRead, ProgramsAreRead}
-use Rattle.mql_syntax_total.proofs.Gives.{has_some, Among}
+use Rattle.mql_syntax_total.proofs.Gives.{false_true, has_some, Among}
 use Rattle.mql_syntax_total.proofs.Parsed.{item_cs, item_fs, parsed_parts}
 use Rattle.mql_syntax_read.specs.Items.{program}
 use Rattle.mql_syntax_total.proofs.Programs.{program_is_read}
@@ -54,3 +55,7 @@ statements_are_read tokens n place p f h = has_some (λ x. Unit {0}) (statement 
 
 pub programs_are_read : ProgramsAreRead
 programs_are_read tokens t p = has_some (λ x. Unit {0}) (program tokens (classes_of tokens) 200 t) (program_is_read tokens t p)
+
+-- nothing of a tree of the parser is not read
+pub never_nothing : (tokens : List (Token × Span)) (t : Tree) → IsParsed tokens (Ok t) → program tokens (classes_of tokens) 200 t ≡ None → ⊥
+never_nothing tokens t p e = let h = programs_are_read tokens t p in let k : is_some (program tokens (classes_of tokens) 200 t) ≡ false = ap is_some e in false_true (sym k ∙ h)

@@ -58,9 +58,11 @@ second_part cs es d x xs m = go (firsts_all es) d (goes_all es x.head (heads xs)
     opposite_true : (b : Bool) → elim b [ true ↦ false | false ↦ true ] ≡ true → b ≡ false
     opposite_true true e = false_true e
     opposite_true false e = refl
+
     behind : (rest : List Expression) → edges_away (map class_number cs) [] (firsts_all rest) ≡ true → nullable_all rest ≡ false → (xs : List Part) → MatchesAll rest (heads xs) → (y : Part) × (zs : List Part) × (xs ≡ y ∷ zs) × (is cs [] y ≡ false)
     behind rest d n [] m = false_true (sym n ∙ all_empty rest m)
     behind rest d n (y ∷ zs) m = (y, zs, refl, front_away cs rest d y zs m)
+
     go : (edges : List Edge) → seconds_away (map class_number cs) edges ≡ true → Goes MatchesAll edges x.head (heads xs) → (y : Part) × (zs : List Part) × (xs ≡ y ∷ zs) × (is cs [] y ≡ false)
     go [] d g = absurd g
     go (e ∷ edges) d (inl h) =
@@ -88,9 +90,9 @@ tested_gives {N = N} {G = G} {Q = Q} k es st = record {
       let c = cut_one (36 ∷ []) [] es t.1 t.4 in
       let h = subst (Every G) c.2 t.6 in
       subst (Held N Q) (sym (
-        ap (λ xs. on (tested xs) k) (o.2 ∙ ap (λ zs. o.0 ∷ zs) (t.2 ∙ ap (λ zs. t.0 ∷ zs) c.2))
-        ∙ ap (λ (b : Bool). on (on (if b then Some (t.0 ∷ c.0 ∷ c.1) else None) (λ ys. on (next ys) (λ t. option_map (λ zs. (t.0, zs)) (sign (class.CloseParen ∷ []) t.1)))) k) o.3
-        ∙ ap (λ (b : Bool). on (option_map (λ zs. (t.0, zs)) (if b then Some c.1 else None)) k) c.3
+      ap (λ xs. on (tested xs) k) (o.2 ∙ ap (λ zs. o.0 ∷ zs) (t.2 ∙ ap (λ zs. t.0 ∷ zs) c.2))
+      ∙ ap (λ (b : Bool). on (on (if b then Some (t.0 ∷ c.0 ∷ c.1) else None) (λ ys. on (next ys) (λ t. option_map (λ zs. (t.0, zs)) (sign (class.CloseParen ∷ []) t.1)))) k) o.3
+      ∙ ap (λ (b : Bool). on (option_map (λ zs. (t.0, zs)) (if b then Some c.1 else None)) k) c.3
       )) ((st t.0 t.3 t.5).there c.1 c.4 h.1);
 }
 
@@ -142,8 +144,10 @@ module _ (tokens : List (Token × Span)) (n : ℕ) where
     where
       same_head : (y z : Part) (ys zs : List Part) → y ∷ ys ≡ z ∷ zs → y ≡ z
       same_head y z ys zs e = cc
+
       no_second : {B : Type 0} → (y : Part) × (zs : List Part) × (◌≡◌ {A = List Part} [] (y ∷ zs)) × (is (class.Comma ∷ []) [] y ≡ false) → B
       no_second s = absurd (let f : ◌≡◌ {A = List Part} [] (s.0 ∷ s.1) → ⊥ = λ e. cc in f s.2)
+
       go : (xs : List Part) → MatchesAll (many (a_token (class.Static ∷ class.Const ∷ [])) ∷ pointed ∷ more_variables ∷ []) (heads xs) → Has (VariablesGood tokens n) (variables local_words xs) → Has SimpleGood (local_or_values xs)
       go [] m h = false_true (all_empty (many (a_token (class.Static ∷ class.Const ∷ [])) ∷ pointed ∷ more_variables ∷ []) m)
       go (x ∷ []) m h = no_second (second_part (class.Comma ∷ []) (many (a_token (class.Static ∷ class.Const ∷ [])) ∷ pointed ∷ more_variables ∷ []) refl x [] m)
@@ -214,6 +218,7 @@ module _ (tokens : List (Token × Span)) (n : ℕ) where
       has_simple : (o : Option Simple) → Has SimpleGood o → Has (λ s. ShapeGood (simple_shape s)) o
       has_simple None h = absurd h
       has_simple (Some s) h = simple_good s h
+
       simple_map : {es : List Expression} {k : List Part → Option Simple} → Gives ⊥ Good SimpleGood k es → Gives ⊥ Good (λ s. ShapeGood (simple_shape s)) k es
       simple_map {k = k} st = record { there = λ xs m g. has_simple (k xs) (st.there xs m g) }
 
@@ -299,10 +304,10 @@ module _ (tokens : List (Token × Span)) (n : ℕ) where
       let d = cut_one (44 ∷ []) [] [] v.1 v.4 in
       let p : ys ≡ c.0 ∷ v.0 ∷ d.0 ∷ [] = c.2 ∙ ap (λ zs. c.0 ∷ zs) (v.2 ∙ ap (λ zs. v.0 ∷ zs) (d.2 ∙ ap (λ zs. d.0 ∷ zs) (nothing_left d.1 d.4))) in
       subst (Every PieceGood) (sym (
-        ap (λ us. labelled false (us ++ zs)) p
-        ∙ is_case false c.0 (v.0 ∷ d.0 ∷ zs) c.3
-        ∙ is_label true v.0 (d.0 ∷ zs) (away_head (26 ∷ []) [] value_cs value_fs v.0.head refl refl v.3) (away_head (44 ∷ []) [] value_cs value_fs v.0.head refl refl v.3) (away_head (27 ∷ []) [] value_cs value_fs v.0.head refl refl v.3)
-        ∙ ap (λ us. Case v.0 ∷ us) (is_colon false d.0 zs (away_head (26 ∷ []) [] (44 ∷ []) [] d.0.head refl refl d.3) d.3)
+      ap (λ us. labelled false (us ++ zs)) p
+      ∙ is_case false c.0 (v.0 ∷ d.0 ∷ zs) c.3
+      ∙ is_label true v.0 (d.0 ∷ zs) (away_head (26 ∷ []) [] value_cs value_fs v.0.head refl refl v.3) (away_head (44 ∷ []) [] value_cs value_fs v.0.head refl refl v.3) (away_head (27 ∷ []) [] value_cs value_fs v.0.head refl refl v.3)
+      ∙ ap (λ us. Case v.0 ∷ us) (is_colon false d.0 zs (away_head (26 ∷ []) [] (44 ∷ []) [] d.0.head refl refl d.3) d.3)
       )) ((v.5, v.3), h)
   one_label ys zs (inr (inl m)) g h =
       let rows = flattened (in_order (a class.Default ∷ a class.Colon ∷ [])) [] (heads ys) (all_of (in_order (a class.Default ∷ a class.Colon ∷ [])) (heads ys) m) in
@@ -310,15 +315,15 @@ module _ (tokens : List (Token × Span)) (n : ℕ) where
       let d = cut_one (44 ∷ []) [] [] c.1 c.4 in
       let p : ys ≡ c.0 ∷ d.0 ∷ [] = c.2 ∙ ap (λ zs. c.0 ∷ zs) (d.2 ∙ ap (λ zs. d.0 ∷ zs) (nothing_left d.1 d.4)) in
       subst (Every PieceGood) (sym (
-        ap (λ us. labelled false (us ++ zs)) p
-        ∙ is_default false c.0 (d.0 ∷ zs) (away_head (26 ∷ []) [] (27 ∷ []) [] c.0.head refl refl c.3) (away_head (44 ∷ []) [] (27 ∷ []) [] c.0.head refl refl c.3) c.3
-        ∙ ap (λ us. Default ∷ us) (is_colon false d.0 zs (away_head (26 ∷ []) [] (44 ∷ []) [] d.0.head refl refl d.3) d.3)
+      ap (λ us. labelled false (us ++ zs)) p
+      ∙ is_default false c.0 (d.0 ∷ zs) (away_head (26 ∷ []) [] (27 ∷ []) [] c.0.head refl refl c.3) (away_head (44 ∷ []) [] (27 ∷ []) [] c.0.head refl refl c.3) c.3
+      ∙ ap (λ us. Default ∷ us) (is_colon false d.0 zs (away_head (26 ∷ []) [] (44 ∷ []) [] d.0.head refl refl d.3) d.3)
       )) (tt, h)
   one_label ys zs (inr (inr m)) g h =
       let o = one_part [] statement_fs ys m in
       subst (Every PieceGood) (sym (
-        ap (λ us. labelled false (us ++ zs)) o.1
-        ∙ is_label false o.0 zs (away_head (26 ∷ []) [] [] statement_fs o.0.head refl refl o.2) (away_head (44 ∷ []) [] [] statement_fs o.0.head refl refl o.2) (away_head (27 ∷ []) [] [] statement_fs o.0.head refl refl o.2)
+      ap (λ us. labelled false (us ++ zs)) o.1
+      ∙ is_label false o.0 zs (away_head (26 ∷ []) [] [] statement_fs o.0.head refl refl o.2) (away_head (44 ∷ []) [] [] statement_fs o.0.head refl refl o.2) (away_head (27 ∷ []) [] [] statement_fs o.0.head refl refl o.2)
       )) (((subst (Every Good) o.1 g).0, o.2), h)
 
   labels_times : (k : ℕ) (xs : List Part) → Times k (Matches labels) (heads xs) → Every Good xs → Every PieceGood (labelled false xs)
@@ -341,6 +346,7 @@ module _ (tokens : List (Token × Span)) (n : ℕ) where
       has_return : (o : Option (Option Part)) → Has (Maybe (ValuePart tokens n)) o → Has (λ v. ShapeGood (plain kind.Return (list_of_one v) [])) o
       has_return None h = absurd h
       has_return (Some v) h = plain_good kind.Return (list_of_one v) [] (listed_good v h) tt
+
       return_map : {es : List Expression} {k : List Part → Option (Option Part)} → Gives ⊥ Good (Maybe (ValuePart tokens n)) k es → Gives ⊥ Good (λ v. ShapeGood (plain kind.Return (list_of_one v) [])) k es
       return_map {k = k} st = record { there = λ xs m g. has_return (k xs) (st.there xs m g) }
 

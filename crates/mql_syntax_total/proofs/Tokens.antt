@@ -610,7 +610,6 @@ step_was signs.Increment h = tt
 step_was signs.Decrement h = tt
 step_was signs.Hash h = false_true h
 
-
 -- a token of a word's class is that word
 plain_only : (x : Context) (name : List ℕ) → listed (class_number (plain_name_class (x.roles name) x.spot name)) (0 ∷ 1 ∷ 7 ∷ 14 ∷ []) ≡ true
 unfolding class_number
@@ -625,6 +624,7 @@ none_only x name = dotted (unwrap_or (class_of_name name None) (plain_name_class
   where
     dotted : (c : Class) → listed (class_number c) (0 ∷ 1 ∷ 7 ∷ 14 ∷ []) ≡ true → listed (class_number (behind_dot x.spot c)) (0 ∷ 1 ∷ 7 ∷ 14 ∷ []) ≡ true
     dotted c h = if_listed (same x.spot.before class.Dot && same c class.TypeName) class.Name c (0 ∷ 1 ∷ 7 ∷ 14 ∷ []) refl h
+
     go : (b : Bool) → listed (class_number (unwrap_or (if b then Some class.TypeName else None) (plain_name_class (x.roles name) x.spot name))) (0 ∷ 1 ∷ 7 ∷ 14 ∷ []) ≡ true
     go true = refl
     go false = plain_only x name

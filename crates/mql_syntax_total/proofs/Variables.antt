@@ -141,9 +141,11 @@ module _ (tokens : List (Token × Span)) (n : ℕ) where
       not_first : (b y : Bool) → elim b [ true ↦ true | false ↦ y ] ≡ true → elim b [ true ↦ true | false ↦ false ] ≡ false → y ≡ true
       not_first true y h i = absurd (let f : true ≡ false → ⊥ = λ e. cc in f i)
       not_first false y h i = h
+
       other : (h : Head) → among (37 ∷ 38 ∷ value_cs) value_fs h ≡ true → among (37 ∷ []) [] h ≡ false → among (38 ∷ []) [] h ≡ false → among value_cs value_fs h ≡ true
       other (of_class c) h i j = not_first (nat_eq 38 c) (listed c value_cs) (not_first (nat_eq 37 c) (listed c (38 ∷ value_cs)) h i) j
       other (of_form f) h i j = h
+
       go : (b c : Bool) → is (class.OpenBracket ∷ []) [] x ≡ b → is (class.CloseBracket ∷ []) [] x ≡ c
           → ((o : Option Part) → If (ValuePart tokens n) o → Every (If (ValuePart tokens n)) (sizes_from o xs))
           → Every (If (ValuePart tokens n)) (if b then sizes_from None xs else if c then o ∷ sizes_from None xs else sizes_from (Some x) xs)
@@ -163,9 +165,9 @@ module _ (tokens : List (Token × Span)) (n : ℕ) where
         let r = cut_one (66 ∷ []) [] (init ∷ []) xs m in
         let s = front_among value_cs value_fs init [] refl refl r.1 r.4 (subst (Every Good) r.2 g).1 in
         subst (Has StartGood) (sym (
-          ap start_of r.2
-          ∙ ap (λ (b : Bool). if b then option_map views.Value (last r.1) else on (sign (class.OpenParen ∷ []) (r.0 ∷ r.1)) (λ ys. option_map views.Arguments (all_to class.CloseParen ys))) r.3
-          ∙ ap (λ zs. option_map views.Value (last zs)) (s.2 ∙ ap (λ zs. s.0 ∷ zs) (nothing_left s.1 s.4))
+        ap start_of r.2
+        ∙ ap (λ (b : Bool). if b then option_map views.Value (last r.1) else on (sign (class.OpenParen ∷ []) (r.0 ∷ r.1)) (λ ys. option_map views.Arguments (all_to class.CloseParen ys))) r.3
+        ∙ ap (λ zs. option_map views.Value (last zs)) (s.2 ∙ ap (λ zs. s.0 ∷ zs) (nothing_left s.1 s.4))
         )) (s.5, s.3);
   }
 

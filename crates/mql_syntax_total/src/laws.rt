@@ -1,5 +1,6 @@
 //! The laws of reading. These functions do nothing: each one's contract is its law.
-ghost use Rattle.mql_syntax_total.specs.Laws.{TypesAreRead, ValuesAreRead, StatementsAreRead, PartsAreFormed, ItemsAreFormed, ProgramsAreRead};
+ghost use Rattle.mql_syntax_total.specs.Laws.{ItemsAreFormed, PartsAreFormed, ProgramsAreRead};
+ghost use Rattle.mql_syntax_total.specs.Laws.{StatementsAreRead, TypesAreRead, ValuesAreRead};
 
 /// The parts of a program are formed, and so are the parts of each formed part.
 pub fn parts_are_formed()
