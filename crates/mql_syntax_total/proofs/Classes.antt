@@ -1,15 +1,13 @@
 -- The named parts of enumerations, classes, members and templates are what they are named.
-use Rattle.std.proofs.Common.{◌≡◌, ℕ, zero, suc, ◌+◌, Bool, true, false, List, [], ◌∷◌, ◌++◌, map, Option, Some, None, refl, sym, ap, subst, ◌∙◌, ◌⊎◌, inl, inr, if◌then◌else◌, append_assoc, append-nil}
+use Rattle.std.proofs.Common.{◌≡◌, ℕ, suc, Bool, true, false, List, [], ◌∷◌, ◌++◌, Option, Some, None, refl, sym, ap, subst, ◌∙◌, inl, inr, if◌then◌else◌, append_assoc, append-nil}
 use Rattle.std.specs.Prelude.{option_map}
 use Rattle.mql_forms.specs.Numbers.{form_number}
-use Rattle.mql_forms.specs.declared.form.Form.{Form}
 use Rattle.mql_forms.specs.declared.form.Form.TheVariants as form
-use Rattle.mql_grammar.specs.Expression.{Expression, part, nothing, either, seq, many, among, IsOne, Matches, InRow, Times}
+use Rattle.mql_grammar.specs.Expression.{Expression, part, nothing, either, seq, many, among, IsOne, Matches}
 use Rattle.mql_grammar.specs.Expressions.{a, a_token, a_node, one, one_of, maybe, in_order, list_of, names, name as name_parts, given, pointed_alone, more_variables, variables as variables_parts, template_head as head_parts, function as function_parts, enumeration_parts, class_parts, member_parts, template_parts, item_parts}
-use Rattle.mql_grammar.specs.Forms.{Head, of_class, of_form}
+use Rattle.mql_grammar.specs.Forms.{Head}
 use Rattle.mql_grammar.specs.Numbers.{class_number}
 use Rattle.mql_grammar.specs.Table.{listed, both}
-use Rattle.mql_grammar.specs.declared.token_class.Class.{Class}
 use Rattle.mql_grammar.specs.declared.token_class.Class.TheVariants as class
 use Rattle.mql_grammar.proofs.Derivatives.{MatchesAll, firsts_all, nullable_all, all_empty}
 use Rattle.mql_tree.specs.declared.token.Span.{Span}
@@ -18,11 +16,11 @@ use Rattle.mql_views.specs.Cuts.{on, is, must, next, sign, ended, may_be, up_to}
 use Rattle.mql_views.specs.Laws.{heads}
 use Rattle.mql_views.specs.Parts.{Part}
 use Rattle.mql_views.specs.Declarations.{Enumerator, Enumeration, Parent, Class', preset_of, enumerator, braced, enumeration, parent_behind, parent_cut, class_end, class_behind, class_of, Function, function, store_words, local_words}
-use Rattle.mql_views.specs.Items.{Declaration, OfFunction, OfVariables, declaration, Item, Group, Declares, group, item, template_head, lone_class, Templated, TemplatedClass, TemplatedFunction, templated, Template, template, Member, member, member_template}
-use Rattle.mql_views.proofs.Stands.{within, inside_head, away_head, avoids, edges_away, single, flat, flattened, opened, all_of, cut_one, cut_row, one_part, front_away, nothing_left, on_on}
+use Rattle.mql_views.specs.Items.{Declaration, OfFunction, declaration, Item, Group, Declares, group, item, template_head, lone_class, Templated, TemplatedClass, TemplatedFunction, templated, Template, template, Member, member, member_template}
+use Rattle.mql_views.proofs.Stands.{inside_head, avoids, edges_away, flat, flattened, opened, all_of, cut_one, front_away, nothing_left, on_on}
 use Rattle.mql_syntax.specs.Lists.{pieces, without}
 use Rattle.mql_syntax_total.specs.Formed.{Every, IsFormed}
-use Rattle.mql_syntax_total.proofs.Gives.{false_true, Held, Has, Among, Gives, consists, every_among, front_among, held_map, sign_gives, must_gives, next_gives, none_gives, ended_gives, maybe_gives, either_gives, flat_gives, seq_gives, cons_gives, map_gives, more_gives, same_gives, up_to_gives, has_map}
+use Rattle.mql_syntax_total.proofs.Gives.{false_true, Held, Has, Among, Gives, every_among, front_among, sign_gives, must_gives, none_gives, ended_gives, maybe_gives, either_gives, flat_gives, seq_gives, map_gives, more_gives, same_gives, up_to_gives, has_map, every_both}
 use Rattle.mql_syntax_total.proofs.Pieces.{Calm, calm_of, pieces_to, without_among}
 use Rattle.mql_syntax_total.proofs.Statements.{seconds_away, second_part}
 use Rattle.mql_syntax_total.proofs.Types.{type_cs, type_fs, TypePart, among_more}
@@ -117,10 +115,6 @@ module _ (tokens : List (Token × Span)) (n : ℕ) where
   abbrev members : Expression
   members = many (one_of (in_order (a class.Access ∷ a class.Colon ∷ []) ∷ a_node form.Member ∷ []))
 
-  every_both : {A : Type 0} (P Q : A → Type 0) (xs : List A) → Every P xs → Every Q xs → Every (λ x. P x × Q x) xs
-  every_both P Q [] g h = tt
-  every_both P Q (x ∷ xs) g h = ((g.0, h.0), every_both P Q xs g.1 h.1)
-
   abbrev class_rows : List Expression
   class_rows = a class.OpenBrace ∷ members ∷ a class.CloseBrace ∷ a class.Semicolon ∷ []
 
@@ -135,9 +129,6 @@ module _ (tokens : List (Token × Span)) (n : ℕ) where
   unfolding parent_cut
   parent_none es d [] m = refl
   parent_none es d (x ∷ xs) m = ap (λ (b : Bool). if b then parent_behind (may_be (class.Access ∷ []) xs) else Some (None, x ∷ xs)) (front_away (class.Colon ∷ []) es d x xs m)
-
-  abbrev ClassQ : Part → Part → Option Parent → List Part → Type 0
-  ClassQ k x p ms = ClassGood (record { kind = k; name = x; parent = p; members = Some ms })
 
   abbrev with_members : Part → Part → Option Parent × List Part → Option Class'
   with_members k x p = option_map (λ ms. record { kind = k; name = x; parent = p.0; members = Some ms }) (braced p.1)

@@ -1,65 +1,30 @@
 -- What fits both a variable and a function is a function with named parts, too.
-use Rattle.std.proofs.Common.{◌≡◌, ℕ, zero, suc, ◌+◌, Bool, true, false, not, ◌&&◌, List, [], ◌∷◌, ◌++◌, map, take, drop, length, Option, Some, None, is_some, refl, sym, ap, subst, ◌∙◌, ◌⊎◌, inl, inr, if◌then◌else◌, append_assoc, append-nil}
+use Rattle.std.proofs.Common.{◌≡◌, ℕ, ◌+◌, Bool, true, false, ◌&&◌, List, [], ◌∷◌, ◌++◌, map, take, drop, Option, Some, None, is_some, refl, sym, ap, subst, ◌∙◌, inl, inr, if◌then◌else◌, append-nil}
 use Rattle.std.specs.Prelude.{option_map}
 use Rattle.mql_forms.specs.Numbers.{form_number}
-use Rattle.mql_forms.specs.declared.form.Form.{Form}
-use Rattle.mql_grammar.specs.Expression.{Expression, part, nothing, either, seq, many, among, IsOne, Matches, InRow, Times}
-use Rattle.mql_grammar.specs.Expressions.{a, a_token, expr, args, maybe, in_order, one_of, init, dims, name as name_parts, pointed_alone, more_variables, var, scoped as scoped_parts, function as function_parts}
+use Rattle.mql_grammar.specs.Expression.{Expression, part, nothing, either, seq, many, among, Matches}
+use Rattle.mql_grammar.specs.Expressions.{a, expr, args, maybe, in_order, dims, name as name_parts, pointed_alone, more_variables, var, function as function_parts}
 use Rattle.mql_grammar.specs.Forms.{Head}
 use Rattle.mql_grammar.specs.Numbers.{class_number}
-use Rattle.mql_grammar.specs.Table.{listed, both}
 use Rattle.mql_grammar.specs.declared.token_class.Class.{Class}
 use Rattle.mql_grammar.specs.declared.token_class.Class.TheVariants as class
-use Rattle.mql_grammar.proofs.Derivatives.{MatchesAll, Goes, firsts_all, goes_all, nullable_all, all_empty}
+use Rattle.mql_grammar.proofs.Derivatives.{MatchesAll, Goes, firsts_all, goes_all}
 use Rattle.mql_tree.specs.declared.token.Span.{Span}
 use Rattle.mql_tree.specs.declared.token.Token.{Token}
-use Rattle.mql_views.specs.Cuts.{on, is, run, must, sign, may, all_to, piece_end}
+use Rattle.mql_views.specs.Cuts.{on, is, must, sign, may, piece_end}
 use Rattle.mql_views.specs.Laws.{heads}
 use Rattle.mql_views.specs.Parts.{Part}
 use Rattle.mql_views.specs.Values.{stars}
-use Rattle.mql_views.specs.Declarations.{Typed, Title, Variables, Function, function_words, type_words, type_forms as grammar_forms, references, is_typed, typed, scoped, param_typed, param, is_param, are_params, params_stand, function_params, function_named, function_typed, function_worded, function, variables, variables_typed}
+use Rattle.mql_views.specs.Declarations.{Typed, Title, Function, function_words, type_words, type_forms as grammar_forms, is_typed, scoped, param_typed, param, is_param, are_params, params_stand, function_params, function_named, function_typed, function_worded, function, variables}
 use Rattle.mql_views.specs.Items.{Declaration, OfFunction, OfVariables, only_variables, declaration}
-use Rattle.mql_views.proofs.Stands.{within, inside_head, away_head, avoids, edges_away, edges_within, flat, flattened, opened, all_of, cut_one, cut_map, cut_row, one_part, single_part, front_away, front_within, nothing_left, one_suc, split_run}
+use Rattle.mql_views.proofs.Stands.{within, inside_head, away_head, avoids, edges_away, opened, all_of, cut_row, single_part, front_away, front_within}
 use Rattle.mql_syntax.specs.Lists.{pieces, pieces_from}
 use Rattle.mql_syntax_total.specs.Formed.{Every, IsFormed}
-use Rattle.mql_syntax_total.proofs.Gives.{false_true, Held, Has, Where, Among, Gives, front_among, every_among, sign_gives, must_gives, may_not_gives, either_gives, flat_gives, seq_gives, up_to_gives, all_to_gives, has_map, has_where}
-use Rattle.mql_syntax_total.proofs.Types.{type_cs, type_fs, TypeGood}
+use Rattle.mql_syntax_total.proofs.Gives.{false_true, Has, Where, Among, Gives, every_among, must_gives, may_not_gives, flat_gives, up_to_gives, all_to_gives, has_map, partial_run}
+use Rattle.mql_syntax_total.proofs.Types.{TypeGood}
 use Rattle.mql_syntax_total.proofs.Values.{value_cs, value_fs}
 use Rattle.mql_syntax_total.proofs.Variables.{If, NamePart, scoped_none, scoped_gives, joined, start_expression, VariablesGood, pointed_alone_gives, worded_gives}
 use Rattle.mql_syntax_total.proofs.Functions.{ParamPiece, written, TitleGood, FunctionGood, where_if, without_bases, typed_not, pointed_typed, function_has}
-
--- any number of words, as far as the run of some of them goes
-run_none : (cs : List Class) (es : List Expression) → edges_away (map class_number cs) [] (firsts_all es) ≡ true → (xs : List Part) → MatchesAll es (heads xs) → run cs xs ≡ 0
-run_none cs es d [] m = refl
-run_none cs es d (x ∷ xs) m = ap (λ (b : Bool). if b then 1 + run cs xs else 0) (front_away cs es d x xs m)
-
-partial_run : {B : Type 0} {N : Type 0} {G : Part → Type 0} {Q : B → Type 0} (cs : List Class) (ds : List ℕ) (k : List Part × List Part → Option B) (es : List Expression) → edges_away (map class_number cs) [] (firsts_all es) ≡ true
-    → ((ys : List Part) → Gives N G Q (λ zs. k (ys, zs)) es)
-    → ((ys : List Part) (x : Part) (zs : List Part) → Among ds [] x → is cs [] x ≡ false → MatchesAll (many (part ds []) ∷ es) (heads zs) → Held N Q (k (ys, x ∷ zs)))
-    → Gives N G Q (λ xs. k (split_run cs xs)) (many (part ds []) ∷ es)
-unfolding is
-partial_run {B = B} {N = N} {G = G} {Q = Q} cs ds k es d st stop = record { there = λ xs m g. walk m.3.0 xs (m.0, m.1, m.2, m.3.1, m.4) g k st stop }
-  where
-    walk : (n : ℕ) (xs : List Part) → InRow (Times n (Matches (part ds []))) (MatchesAll es) (heads xs) → Every G xs → (k : List Part × List Part → Option B) → ((ys : List Part) → Gives N G Q (λ zs. k (ys, zs)) es)
-        → ((ys : List Part) (x : Part) (zs : List Part) → Among ds [] x → is cs [] x ≡ false → MatchesAll (many (part ds []) ∷ es) (heads zs) → Held N Q (k (ys, x ∷ zs)))
-        → Held N Q (k (split_run cs xs))
-    walk zero xs m g k st stop =
-        let here : MatchesAll es (heads xs) = subst (MatchesAll es) (sym (m.2 ∙ ap (λ us. us ++ m.1) m.3)) m.4 in
-        subst (Held N Q) (sym (ap (λ n. k (take n xs, drop n xs)) (run_none cs es d xs here))) ((st []).there xs here g)
-    walk (suc n) xs m g k st stop =
-        let r = cut_map xs m.3.0 (m.3.1 ++ m.1) (m.2 ∙ ap (λ us. us ++ m.1) m.3.2 ∙ append_assoc m.3.0 m.3.1 m.1) in
-        let o = one_part ds [] r.0 (subst (Matches (part ds [])) (sym r.3) m.3.3) in
-        let p = r.2 ∙ ap (λ ys. ys ++ r.1) o.1 in
-        let w : InRow (Times n (Matches (part ds []))) (MatchesAll es) (heads r.1) = (m.3.1, m.1, r.4, m.3.4, m.4) in
-        subst (λ xs. Held N Q (k (split_run cs xs))) (sym p) (go o.0 r.1 o.2 w (is cs [] o.0) refl (walk n r.1 w (subst (Every G) p g).1 (λ p. k (o.0 ∷ p.0, p.1)) (λ ys. st (o.0 ∷ ys)) (λ ys y us. stop (o.0 ∷ ys) y us)))
-      where
-        go : (x : Part) (zs : List Part) → Among ds [] x → InRow (Times n (Matches (part ds []))) (MatchesAll es) (heads zs) → (b : Bool) → is cs [] x ≡ b
-            → Held N Q (k (x ∷ take (run cs zs) zs, drop (run cs zs) zs)) → Held N Q (k (split_run cs (x ∷ zs)))
-        go x zs v w true e on =
-            subst (Held N Q) (sym (ap (λ (b : Bool). k (let n = (if b then 1 + run cs zs else 0) in (take n (x ∷ zs), drop n (x ∷ zs)))) e ∙ ap (λ n. k (take n (x ∷ zs), drop n (x ∷ zs))) (one_suc (run cs zs)))) on
-        go x zs v w false e on =
-            subst (Held N Q) (sym (ap (λ (b : Bool). k (let n = (if b then 1 + run cs zs else 0) in (take n (x ∷ zs), drop n (x ∷ zs)))) e))
-            (stop [] x zs v e (w.0, w.1, w.2, (n, w.3), w.4))
 
 -- words that no function begins with
 stopped : (Q : Function → Type 0) (ds : List ℕ) (es : List Expression) → within ds (9 ∷ 10 ∷ 11 ∷ 12 ∷ []) ≡ true → edges_away (class_number class.DoubleColon ∷ []) [] (firsts_all (many (part ds []) ∷ es)) ≡ true

@@ -1,36 +1,33 @@
 -- The named parts of functions are what they are named.
-use Rattle.std.proofs.Common.{◌≡◌, ℕ, zero, suc, ◌+◌, Bool, true, false, ◌&&◌, List, [], ◌∷◌, ◌++◌, map, take, drop, length, Option, Some, None, is_some, refl, sym, ap, subst, ◌∙◌, ◌⊎◌, inl, inr, if◌then◌else◌, append_assoc, append-nil}
+use Rattle.std.proofs.Common.{◌≡◌, ℕ, Bool, true, false, ◌&&◌, List, [], ◌∷◌, ◌++◌, map, take, drop, length, Option, Some, None, refl, sym, ap, subst, ◌∙◌, inl, inr, if◌then◌else◌, append-nil}
 use Rattle.std.specs.Prelude.{option_map}
 use Rattle.mql_forms.specs.Numbers.{form_number}
-use Rattle.mql_forms.specs.declared.form.Form.{Form}
 use Rattle.mql_forms.specs.declared.form.Form.TheVariants as form
-use Rattle.mql_grammar.specs.Expression.{Expression, part, nothing, either, seq, many, among, Matches, InRow, Times}
-use Rattle.mql_grammar.specs.Expressions.{a, a_token, a_node, expr, args, maybe, in_order, one_of, list_of, name as name_parts, dims, given, stars as star_parts, lent, lent_alone, pointed_alone, more_variables, scoped as scoped_parts, base, param as param_parts, params as params_parts, function_behind_type, function as function_parts}
-use Rattle.mql_grammar.specs.Forms.{Head}
+use Rattle.mql_grammar.specs.Expression.{Expression, part, nothing, either, many, among, Matches}
+use Rattle.mql_grammar.specs.Expressions.{a, a_token, a_node, expr, args, maybe, in_order, one_of, list_of, name as name_parts, dims, given, stars as star_parts, lent, lent_alone, pointed_alone, scoped as scoped_parts, base, param as param_parts, params as params_parts, function_behind_type, function as function_parts}
 use Rattle.mql_grammar.specs.Numbers.{class_number}
-use Rattle.mql_grammar.specs.Table.{listed, both}
 use Rattle.mql_grammar.specs.declared.token_class.Class.{Class}
 use Rattle.mql_grammar.specs.declared.token_class.Class.TheVariants as class
-use Rattle.mql_grammar.proofs.Derivatives.{MatchesAll, firsts_all, goes_all, nullable_all, all_empty}
+use Rattle.mql_grammar.proofs.Derivatives.{MatchesAll, firsts_all, nullable_all, all_empty}
 use Rattle.mql_tree.specs.declared.token.Span.{Span}
 use Rattle.mql_tree.specs.declared.token.Token.{Token}
-use Rattle.mql_views.specs.Cuts.{on, is, run, until, split, must, last, sign, ended, may, up_to, piece_end}
+use Rattle.mql_views.specs.Cuts.{on, is, until, split, must, last, sign, ended, may}
 use Rattle.mql_views.specs.Laws.{heads}
 use Rattle.mql_views.specs.Parts.{Part}
 use Rattle.mql_views.specs.Values.{Call, call, stars}
-use Rattle.mql_views.specs.Declarations.{Typed, Title, Param, Body, Block, Declared, Pure, Function, function_words, type_words, type_forms as grammar_forms, references, is_typed, typed_front, typed, scoped, preset_of, param_end, param_typed, param, is_param, are_params, params_stand, bases_cut, lone_body, body_of, function_end, function_params, function_named, function_typed, function_worded, function}
-use Rattle.mql_views.proofs.Stands.{within, apart, inside_head, away_head, avoids, all_away, edges_away, edges_within, single, both_two, flat, flattened, opened, all_of, cut_one, cut_map, cut_row, cut_single, one_part, first_away, front_away, front_within, may_none, nothing_left, one_suc, split_run}
+use Rattle.mql_views.specs.Declarations.{Typed, Title, Param, Body, Block, Declared, Pure, Function, function_words, type_words, type_forms as grammar_forms, references, is_typed, typed_front, typed, scoped, preset_of, param_end, param_typed, param, params_stand, bases_cut, lone_body, body_of, function_end, function_params, function_named, function_typed, function_worded, function}
+use Rattle.mql_views.proofs.Stands.{within, inside_head, avoids, all_away, edges_away, edges_within, single, flat, flattened, opened, all_of, cut_one, cut_row, cut_single, one_part, first_away, front_away, front_within, may_none, nothing_left}
 use Rattle.mql_views.proofs.DeclarationForms.{until_is}
 use Rattle.mql_views.proofs.FunctionForms.{function_total}
 use Rattle.mql_syntax.specs.Lists.{pieces, pieces_from}
 use Rattle.mql_syntax.specs.Values.{items}
 use Rattle.mql_syntax.specs.Variables.{sizes_from}
 use Rattle.mql_syntax_total.specs.Formed.{Every, IsFormed}
-use Rattle.mql_syntax_total.proofs.Gives.{false_true, Held, Has, Where, every_front, every_back, every_take, every_drop, Among, Gives, consists, every_among, front_among, held_map, held_on, has_map, has_where, sign_gives, must_gives, next_gives, last_gives, none_gives, may_gives, may_so_gives, may_not_gives, maybe_gives, either_gives, flat_gives, seq_gives, cons_gives, map_gives, up_to_gives, lone_gives}
+use Rattle.mql_syntax_total.proofs.Gives.{false_true, Held, Has, Where, every_take, every_drop, Among, Gives, held_map, held_on, has_map, has_where, sign_gives, must_gives, next_gives, last_gives, may_gives, may_so_gives, may_not_gives, maybe_gives, either_gives, flat_gives, seq_gives, cons_gives, map_gives, up_to_gives, lone_gives, run_gives, and_false}
 use Rattle.mql_syntax_total.proofs.Pieces.{Calm, calm_join, calm_of, calm_enclosed, pieces_are}
 use Rattle.mql_syntax_total.proofs.Types.{type_cs, type_fs, TypePart, TypeGood, among_more}
 use Rattle.mql_syntax_total.proofs.Values.{value_cs, value_fs, name_cs, ValuePart, items_good}
-use Rattle.mql_syntax_total.proofs.Variables.{If, NamePart, scoped_none, scoped_gives, run_gives, joined, dims_good, until_all, take_length, drop_length}
+use Rattle.mql_syntax_total.proofs.Variables.{If, NamePart, scoped_none, scoped_gives, dims_good, until_all, take_length, drop_length}
 use Rattle.mql_syntax_total.proofs.Statements.{StatementPart, statement_fs}
 
 abbrev behind_types : List Class
@@ -89,10 +86,6 @@ pointed_typed k es away near n st = either_gives _ _ _ _
     (seq_gives _ _ _ _ (typed_gives k _ _ _ es refl refl refl away near n (λ t b v g. st t b (among_more type_cs type_fs (2 ∷ 3 ∷ []) [] t refl refl v) g)))
 
 -- no type: it begins otherwise, or what is behind is not behind a type
-and_false : (b : Bool) → (b && false) ≡ false
-and_false true = refl
-and_false false = refl
-
 first_no_type : (es : List Expression) → edges_away (map class_number type_words) (map form_number grammar_forms) (firsts_all es) ≡ true → (xs : List Part) → MatchesAll es (heads xs) → is_typed xs ≡ false
 unfolding is_typed is
 first_no_type es d [] m = refl
@@ -133,9 +126,6 @@ plain_no_colons more xs (us, vs, e, inr x, m) = scoped_none (47 ∷ []) [] (name
 module _ (tokens : List (Token × Span)) (n : ℕ) where
   abbrev Good : Part → Type 0
   Good p = IsFormed tokens n p
-
-  abbrev Thing : Type 0
-  Thing = Unit {0}
 
   -- parameters
   pub record ParamGood (p : Param) : Type 0 where
@@ -463,7 +453,7 @@ module _ (tokens : List (Token × Span)) (n : ℕ) where
   -- all parts of a function
   pub function_where : Gives (Unit {0}) Good FunctionGood function (function_parts ∷ [])
   unfolding function class_number form_number
-  function_where = seq_gives _ _ _ _ (run_gives function_words _ (λ p. function_worded p.0 p.1) _ refl refl (λ ws _.
+  function_where = seq_gives _ _ _ _ (run_gives function_words _ (λ p. function_worded p.0 p.1) _ refl refl (λ ws.
       either_gives _ _ _ _
       (seq_gives _ _ _ _ (record { there = λ xs m g. (typed_function ws).there xs (m.0, m.1, m.2, m.3, flattened (function_behind_type lent) [] m.1 m.4) g }))
       (flat_gives _ (function_behind_type lent_alone) [] (untyped_function ws))))

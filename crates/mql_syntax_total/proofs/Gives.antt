@@ -1,10 +1,10 @@
 -- What a view gives on the parts of a form, and of which kinds those are: one step a cut.
-use Rattle.std.proofs.Common.{◌≡◌, ℕ, zero, suc, ◌+◌, Bool, true, false, List, [], ◌∷◌, ◌++◌, map, length, take, drop, Option, Some, None, is_some, refl, sym, ap, subst, ◌∙◌, ◌⊎◌, inl, inr, if◌then◌else◌}
+use Rattle.std.proofs.Common.{◌≡◌, ℕ, zero, suc, ◌+◌, Bool, true, false, ◌&&◌, List, [], ◌∷◌, ◌++◌, map, take, drop, Option, Some, None, is_some, refl, sym, ap, subst, ◌∙◌, inl, inr, if◌then◌else◌, append_assoc}
 use Rattle.std.specs.Prelude.{option_map}
 use Rattle.mql_forms.specs.Numbers.{form_number}
 use Rattle.mql_forms.specs.declared.form.Form.{Form}
-use Rattle.mql_grammar.specs.Table.{listed, both}
-use Rattle.mql_grammar.specs.Forms.{Head, of_class, of_form}
+use Rattle.mql_grammar.specs.Table.{both}
+use Rattle.mql_grammar.specs.Forms.{Head}
 use Rattle.mql_grammar.specs.Expression.{Expression, part, stub, nothing, never, seq, either, many, among, IsOne, InRow, Times, Matches}
 use Rattle.mql_grammar.specs.Expressions.{a, expression_of}
 use Rattle.mql_grammar.specs.Numbers.{class_number}
@@ -13,8 +13,8 @@ use Rattle.mql_grammar.proofs.Derivatives.{MatchesAll, firsts_all, nullable_all,
 use Rattle.mql_views.specs.Parts.{Part}
 use Rattle.mql_syntax_total.specs.Formed.{Every}
 use Rattle.mql_views.specs.Laws.{heads}
-use Rattle.mql_views.specs.Cuts.{on, is, until, must, next, last, sign, ended, may, may_be, up_to, all_to}
-use Rattle.mql_views.proofs.Stands.{within, inside_head, both_two, avoids, edges_away, single, single_part, flat, flattened, all_of, opened, cut_one, cut_row, up_to_is, may_none, nothing_left, on_on}
+use Rattle.mql_views.specs.Cuts.{on, is, run, until, must, next, last, sign, ended, may, up_to, all_to}
+use Rattle.mql_views.proofs.Stands.{within, inside_head, both_two, avoids, edges_away, single, single_part, flat, flattened, all_of, opened, cut_one, cut_row, up_to_is, may_none, nothing_left, on_on, cut_map, one_part, front_away, one_suc, split_run}
 
 pub false_true : {B : Type 0} → false ≡ true → B
 false_true e = absurd (let f : false ≡ true → ⊥ = λ e. cc in f e)
@@ -309,3 +309,50 @@ may_gives cs ds k es h d st = maybe_gives (λ xs. k (may cs xs)) (part ds []) es
 pub given_by : {B : Type 0} {N : Type 0} {G : Part → Type 0} {Q : B → Type 0} (f : Form) (k : List Part → Option B) → Gives N G Q k (flat (expression_of f) [])
     → (parts : List Part) → Matches (expression_of f) (heads parts) → Every G parts → Held N Q (k parts)
 given_by f k st parts m g = st.there parts (flattened (expression_of f) [] (heads parts) (all_of (expression_of f) (heads parts) m)) g
+
+-- any number of words, as far as the run of some of them goes
+run_none : (cs : List Class) (es : List Expression) → edges_away (map class_number cs) [] (firsts_all es) ≡ true → (xs : List Part) → MatchesAll es (heads xs) → run cs xs ≡ 0
+run_none cs es d [] m = refl
+run_none cs es d (x ∷ xs) m = ap (λ (b : Bool). if b then 1 + run cs xs else 0) (front_away cs es d x xs m)
+
+pub partial_run : {B : Type 0} {N : Type 0} {G : Part → Type 0} {Q : B → Type 0} (cs : List Class) (ds : List ℕ) (k : List Part × List Part → Option B) (es : List Expression) → edges_away (map class_number cs) [] (firsts_all es) ≡ true
+    → ((ys : List Part) → Gives N G Q (λ zs. k (ys, zs)) es)
+    → ((ys : List Part) (x : Part) (zs : List Part) → Among ds [] x → is cs [] x ≡ false → MatchesAll (many (part ds []) ∷ es) (heads zs) → Held N Q (k (ys, x ∷ zs)))
+    → Gives N G Q (λ xs. k (split_run cs xs)) (many (part ds []) ∷ es)
+unfolding is
+partial_run {B = B} {N = N} {G = G} {Q = Q} cs ds k es d st stop = record { there = λ xs m g. walk m.3.0 xs (m.0, m.1, m.2, m.3.1, m.4) g k st stop }
+  where
+    walk : (n : ℕ) (xs : List Part) → InRow (Times n (Matches (part ds []))) (MatchesAll es) (heads xs) → Every G xs → (k : List Part × List Part → Option B) → ((ys : List Part) → Gives N G Q (λ zs. k (ys, zs)) es)
+        → ((ys : List Part) (x : Part) (zs : List Part) → Among ds [] x → is cs [] x ≡ false → MatchesAll (many (part ds []) ∷ es) (heads zs) → Held N Q (k (ys, x ∷ zs)))
+        → Held N Q (k (split_run cs xs))
+    walk zero xs m g k st stop =
+        let here : MatchesAll es (heads xs) = subst (MatchesAll es) (sym (m.2 ∙ ap (λ us. us ++ m.1) m.3)) m.4 in
+        subst (Held N Q) (sym (ap (λ n. k (take n xs, drop n xs)) (run_none cs es d xs here))) ((st []).there xs here g)
+    walk (suc n) xs m g k st stop =
+        let r = cut_map xs m.3.0 (m.3.1 ++ m.1) (m.2 ∙ ap (λ us. us ++ m.1) m.3.2 ∙ append_assoc m.3.0 m.3.1 m.1) in
+        let o = one_part ds [] r.0 (subst (Matches (part ds [])) (sym r.3) m.3.3) in
+        let p = r.2 ∙ ap (λ ys. ys ++ r.1) o.1 in
+        let w : InRow (Times n (Matches (part ds []))) (MatchesAll es) (heads r.1) = (m.3.1, m.1, r.4, m.3.4, m.4) in
+        subst (λ xs. Held N Q (k (split_run cs xs))) (sym p) (go o.0 r.1 o.2 w (is cs [] o.0) refl (walk n r.1 w (subst (Every G) p g).1 (λ p. k (o.0 ∷ p.0, p.1)) (λ ys. st (o.0 ∷ ys)) (λ ys y us. stop (o.0 ∷ ys) y us)))
+      where
+        go : (x : Part) (zs : List Part) → Among ds [] x → InRow (Times n (Matches (part ds []))) (MatchesAll es) (heads zs) → (b : Bool) → is cs [] x ≡ b
+            → Held N Q (k (x ∷ take (run cs zs) zs, drop (run cs zs) zs)) → Held N Q (k (split_run cs (x ∷ zs)))
+        go x zs v w true e on =
+            subst (Held N Q) (sym (ap (λ (b : Bool). k (let n = (if b then 1 + run cs zs else 0) in (take n (x ∷ zs), drop n (x ∷ zs)))) e ∙ ap (λ n. k (take n (x ∷ zs), drop n (x ∷ zs))) (one_suc (run cs zs)))) on
+        go x zs v w false e on =
+            subst (Held N Q) (sym (ap (λ (b : Bool). k (let n = (if b then 1 + run cs zs else 0) in (take n (x ∷ zs), drop n (x ∷ zs)))) e))
+            (stop [] x zs v e (w.0, w.1, w.2, (n, w.3), w.4))
+
+-- all of them
+pub run_gives : {B : Type 0} {N : Type 0} {G : Part → Type 0} {Q : B → Type 0} (cs : List Class) (ds : List ℕ) (k : List Part × List Part → Option B) (es : List Expression) → within ds (map class_number cs) ≡ true → edges_away (map class_number cs) [] (firsts_all es) ≡ true
+    → ((ys : List Part) → Gives N G Q (λ zs. k (ys, zs)) es) → Gives N G Q (λ xs. k (split_run cs xs)) (many (part ds []) ∷ es)
+unfolding is
+run_gives cs ds k es h d st = partial_run cs ds k es d st (λ ys x zs v e m. false_true (sym e ∙ inside_head (map class_number cs) [] ds [] x.head h refl v))
+
+pub and_false : (b : Bool) → (b && false) ≡ false
+and_false true = refl
+and_false false = refl
+
+pub every_both : {A : Type 0} (P Q : A → Type 0) (xs : List A) → Every P xs → Every Q xs → Every (λ x. P x × Q x) xs
+every_both P Q [] g h = tt
+every_both P Q (x ∷ xs) g h = ((g.0, h.0), every_both P Q xs g.1 h.1)

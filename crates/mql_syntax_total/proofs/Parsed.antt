@@ -1,14 +1,12 @@
 -- The parts of a tree that the parser answers follow the grammar.
-use Rattle.std.proofs.Common.{◌≡◌, ℕ, zero, suc, ◌+◌, ◌<◌, ◌≤◌, Bool, true, false, List, [], ◌∷◌, ◌++◌, map, length, Result, Ok, Err, refl, sym, ap, subst, ◌∙◌, ◌⊎◌, inl, inr, append-nil, arith}
+use Rattle.std.proofs.Common.{◌≡◌, ℕ, zero, suc, ◌≤◌, true, List, [], ◌∷◌, ◌++◌, map, length, Ok, refl, sym, ap, subst, ◌∙◌, ◌⊎◌, inl, inr, append-nil}
 use Rattle.mql_forms.specs.Numbers.{form_number}
 use Rattle.mql_forms.specs.declared.form.Form.{Form}
 use Rattle.mql_forms.specs.declared.form.Form.TheVariants as form
-use Rattle.mql_grammar.specs.Exact.{Parses, Within}
-use Rattle.mql_grammar.specs.Expression.{many, among, Matches, Begins, IsOne, Times, InRow}
+use Rattle.mql_grammar.specs.Expression.{many, among, Begins, IsOne, Times, InRow}
 use Rattle.mql_grammar.specs.Expressions.{expression_of, parts_of as heads_of, one, a}
-use Rattle.mql_grammar.specs.Forms.{Head, of_class, of_form, Grammar, Spine, leaf, node, add, head, dot, depth, Formed}
+use Rattle.mql_grammar.specs.Forms.{Head, of_class, of_form, Grammar, leaf, node, add, head, depth, Formed}
 use Rattle.mql_grammar.specs.Numbers.{class_number}
-use Rattle.mql_grammar.specs.Rules.{program, file_limits}
 use Rattle.mql_grammar.specs.declared.token_class.Class.{Class}
 use Rattle.mql_grammar.specs.declared.token_class.Class.TheVariants as class
 use Rattle.mql_grammar.proofs.ExpressionsChecked.{nodes_follow}
@@ -17,7 +15,7 @@ use Rattle.mql_tree.specs.declared.token.Token.{Token}
 use Rattle.mql_tree.specs.declared.token.Tree.{Tree, out-Tree}
 use Rattle.mql_tree.specs.declared.token.Tree.TheOpen.{Tree-F}
 use Rattle.mql_parse.specs.Classes.{classes_of}
-use Rattle.mql_parse.specs.Parsed.{IsParsed, places_from}
+use Rattle.mql_parse.specs.Parsed.{IsParsed}
 use Rattle.mql_parse.specs.View.{with_parts, spine_of, class_at as parsed_at, over}
 use Rattle.mql_views.specs.Laws.{heads}
 use Rattle.mql_views.specs.Parts.{Part, counted, parts_from}

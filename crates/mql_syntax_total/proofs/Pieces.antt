@@ -1,28 +1,20 @@
 -- Pieces between commas.
-use Rattle.std.proofs.Common.{◌≡◌, ℕ, zero, suc, ◌+◌, ◌<◌, Bool, true, false, not, ◌&&◌, nat_eq, List, [], ◌∷◌, ◌++◌, map, Option, Some, None, refl, sym, ap, subst, ◌∙◌, ◌⊎◌, inl, inr, if◌then◌else◌, append_assoc, append-nil, arith}
-use Rattle.std.specs.Prelude.{option_map}
-use Rattle.mql_forms.specs.Numbers.{form_number}
-use Rattle.mql_forms.specs.declared.form.Form.{Form}
-use Rattle.mql_forms.specs.declared.form.Form.TheVariants as form
-use Rattle.mql_grammar.specs.Expression.{Expression, part, stub, nothing, either, seq, many, among, Matches, InRow, Times}
-use Rattle.mql_grammar.specs.Expressions.{a, expression_of, pointed_alone, list_of, type_arguments, generic_type_parts, generic_function_parts}
+use Rattle.std.proofs.Common.{◌≡◌, ℕ, zero, suc, Bool, true, false, not, ◌&&◌, nat_eq, List, [], ◌∷◌, ◌++◌, map, Option, refl, sym, ap, subst, ◌∙◌, inl, inr, if◌then◌else◌, append_assoc, append-nil}
+use Rattle.mql_grammar.specs.Expression.{Expression, nothing, either, seq, many, among, Matches, InRow, Times}
+use Rattle.mql_grammar.specs.Expressions.{a}
 use Rattle.mql_grammar.specs.Forms.{Head, of_class, of_form}
 use Rattle.mql_grammar.specs.Numbers.{class_number}
 use Rattle.mql_grammar.specs.Table.{listed}
 use Rattle.mql_grammar.specs.declared.token_class.Class.{Class}
 use Rattle.mql_grammar.specs.declared.token_class.Class.TheVariants as class
 use Rattle.mql_grammar.proofs.Derivatives.{MatchesAll}
-use Rattle.mql_views.specs.Cuts.{on, is}
+use Rattle.mql_views.specs.Cuts.{is}
 use Rattle.mql_views.specs.Laws.{heads}
 use Rattle.mql_views.specs.Parts.{Part}
 use Rattle.mql_views.proofs.Stands.{AllAway, all_away, avoids, away_head, cut_row, cut_map, cut_one, nothing_left, opened, all_of}
-use Rattle.mql_syntax.specs.Lists.{each, divides, enclosed, last_piece, pieces_from, pieces, without}
+use Rattle.mql_syntax.specs.Lists.{each, divides, enclosed, pieces_from, pieces, without}
 use Rattle.mql_syntax_total.specs.Formed.{Every}
-use Rattle.mql_syntax_total.proofs.Gives.{Has, Among, every_front, every_back, has_on}
-
-and_false : (b : Bool) → (b && false) ≡ false
-and_false true = refl
-and_false false = refl
+use Rattle.mql_syntax_total.proofs.Gives.{Has, Among, every_front, every_back, has_on, and_false}
 
 -- parts in which no piece ends: those behind them go on with the piece
 abbrev pub Calm : List Part → Type 0

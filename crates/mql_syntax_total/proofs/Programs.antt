@@ -1,6 +1,5 @@
 -- Functions, enumerations, classes, items and programs are read.
-use Rattle.std.proofs.Common.{◌≡◌, ℕ, zero, suc, ◌<◌, Bool, true, false, List, [], ◌∷◌, ◌++◌, map, Option, Some, None, Result, Ok, is_some, refl, sym, ap, subst, ◌∙◌, if◌then◌else◌, arith}
-use Rattle.std.specs.Prelude.{option_map}
+use Rattle.std.proofs.Common.{◌≡◌, ℕ, zero, suc, Bool, true, false, List, [], ◌∷◌, Option, Some, None, Ok, refl, sym, ap, subst, ◌∙◌, if◌then◌else◌, arith}
 use Rattle.mql_forms.specs.Numbers.{form_number}
 use Rattle.mql_forms.specs.declared.form.Form.{Form}
 use Rattle.mql_forms.specs.declared.form.Form.TheVariants as form
@@ -9,7 +8,6 @@ use Rattle.mql_grammar.specs.Expressions.{expression_of}
 use Rattle.mql_grammar.specs.Forms.{Head, of_class, of_form}
 use Rattle.mql_grammar.specs.Numbers.{class_number}
 use Rattle.mql_grammar.specs.Table.{listed}
-use Rattle.mql_grammar.specs.declared.token_class.Class.{Class}
 use Rattle.mql_grammar.specs.declared.token_class.Class.TheVariants as class
 use Rattle.mql_parse.specs.Classes.{classes_of}
 use Rattle.mql_parse.specs.Parsed.{IsParsed}
@@ -22,13 +20,12 @@ use Rattle.mql_tree.specs.declared.token.Tree.{Tree, out-Tree}
 use Rattle.mql_tree.specs.declared.token.Tree.TheOpen.{Tree-F}
 use Rattle.mql_views.specs.Cuts.{on, is}
 use Rattle.mql_views.specs.Laws.{heads}
-use Rattle.mql_views.specs.Parts.{Part, nodes, class_at, head_in}
-use Rattle.mql_views.specs.Values.{Call, call}
+use Rattle.mql_views.specs.Parts.{Part, nodes, head_in}
+use Rattle.mql_views.specs.Values.{call}
 use Rattle.mql_views.specs.Declarations as views
 use Rattle.mql_views.specs.Items as items
-use Rattle.mql_views.proofs.Stands.{within, apart, away_head}
 use Rattle.mql_syntax.specs.Lists.{each, maybe, pieces, without}
-use Rattle.mql_syntax.specs.Leaves.{first, token, name, place_of, part_from, parts_in, inner}
+use Rattle.mql_syntax.specs.Leaves.{first, name, place_of, inner}
 use Rattle.mql_syntax.specs.Types.{type_use}
 use Rattle.mql_syntax.specs.Values.{value, items as items_of}
 use Rattle.mql_syntax.specs.Variables.{sizes_from, dimension, start, variable_of, variables}
@@ -37,26 +34,23 @@ use Rattle.mql_syntax.specs.declared.kind.Access.{Access}
 use Rattle.mql_syntax.specs.declared.kind.ClassKind.{ClassKind}
 use Rattle.mql_syntax.specs.declared.kind.Place.{Place}
 use Rattle.mql_syntax_read.specs.Statements.{statement}
-use Rattle.mql_syntax_read.specs.Functions.{param_words, preset_start, type_names, param_of, param, params_of, base_of, base, body, function}
+use Rattle.mql_syntax_read.specs.Functions.{param_words, preset_start, type_names, param, params_of, base, body, function}
 use Rattle.mql_syntax_read.specs.Classes.{gathered, access_of, kind_of, first_access, access, kind, accessed, declared, parent, member, members_of, class_of}
 use Rattle.mql_syntax_read.specs.Items as read
 use Rattle.mql_syntax_read.specs.Items.{text_of, text, enumerator_of, enumerator, enumeration, item_of, class_item, templated, template_of, enumeration_item, form_items, items_in, item, item_parts, program_at, program}
 use Rattle.mql_syntax_total.specs.Formed.{Every, IsFormed}
 use Rattle.mql_syntax_total.proofs.Gives.{false_true, Has, Among, has_on, has_map}
 use Rattle.mql_syntax_total.proofs.Pieces.{listed_behind, without_among}
-use Rattle.mql_syntax_total.proofs.Tokens.{Is, word_there, kind_was, access_was, text_was, low, odd}
-use Rattle.mql_syntax_total.proofs.Trees.{head_is, head_out, inner_formed, IsToken, only_token, node_form, no_leaf}
-use Rattle.mql_syntax_total.proofs.Types.{TypePart, TypeGood, each_is, type_read, none_below}
-use Rattle.mql_syntax_total.proofs.Values.{name_cs, ValuePart, is_name, value_read}
-use Rattle.mql_syntax_total.proofs.Variables.{If, NamePart, VariablesGood, size_read, values_read, start_read, scope_read, variables_read}
+use Rattle.mql_syntax_total.proofs.Tokens.{Is, word_there, kind_was, access_was, text_was}
+use Rattle.mql_syntax_total.proofs.Trees.{head_is, head_out, inner_formed, only_token, node_form, no_leaf}
+use Rattle.mql_syntax_total.proofs.Types.{TypeGood, each_is, type_read, none_below}
+use Rattle.mql_syntax_total.proofs.Values.{ValuePart, is_name, value_read}
+use Rattle.mql_syntax_total.proofs.Variables.{If, NamePart, size_read, values_read, scope_read, variables_read}
 use Rattle.mql_syntax_total.proofs.Statements.{statement_read}
 use Rattle.mql_syntax_total.proofs.Functions.{written, ParamGood, ParamPiece, CallGood, BasePiece, BodyGood, FunctionGood}
 use Rattle.mql_syntax_total.proofs.Declarations.{DeclarationGood}
 use Rattle.mql_syntax_total.proofs.Classes.{EnumeratorGood, EnumeratorPiece, EnumerationGood, enumeration_has, ParentGood, MembersGood, ClassGood, class_has, TypeNames, TemplatedGood, TemplateGood, template_has, MemberGood, member_has, ItemGood, item_has}
-use Rattle.mql_syntax_total.proofs.Parsed.{item_cs, item_fs, parsed_parts, program_part}
-
-abbrev Thing : {A : Type 0} → A → Type 0
-Thing x = Unit {0}
+use Rattle.mql_syntax_total.proofs.Parsed.{item_fs, parsed_parts, program_part}
 
 -- a smaller number of nodes is one, too
 formed_more : (tokens : List (Token × Span)) (n : ℕ) (p : Part) → IsFormed tokens n p → IsFormed tokens (suc n) p

@@ -1,5 +1,5 @@
 -- What is read of trees of the parser.
-use Rattle.std.proofs.Common.{◌≡◌, ◌∙◌, ℕ, suc, true, false, List, [], ◌∷◌, Option, None, Result, Ok, is_some, refl, sym, ap, subst}
+use Rattle.std.proofs.Common.{◌≡◌, ◌∙◌, true, false, List, [], ◌∷◌, None, Ok, is_some, refl, sym, ap, subst}
 use Rattle.mql_parse.specs.Parsed.{IsParsed}
 use Rattle.mql_forms.specs.Numbers.{form_number}
 use Rattle.mql_grammar.specs.Numbers.{class_number}
@@ -14,7 +14,7 @@ use Rattle.mql_syntax.specs.Leaves.{parts_in, inner}
 use Rattle.mql_syntax.specs.Values.{value}
 use Rattle.mql_syntax.specs.Types.{type_use}
 use Rattle.mql_syntax_read.specs.Statements.{statement}
-use Rattle.mql_syntax_total.specs.Formed.{Every, IsFormed, is_value, is_type, is_item}
+use Rattle.mql_syntax_total.specs.Formed.{Every, IsFormed, is_item}
 use Rattle.mql_syntax_total.specs.Laws.{ItemsAreFormed, PartsAreFormed, ValuesAreRead, TypesAreRead, StatementsAreRead, ProgramsAreRead}
 use Rattle.mql_syntax_total.proofs.Gives.{false_true, has_some, Among}
 use Rattle.mql_syntax_total.proofs.Parsed.{item_cs, item_fs, parsed_parts}

@@ -1,12 +1,11 @@
 -- Statements are read.
-use Rattle.std.proofs.Common.{◌≡◌, ℕ, zero, suc, ◌+◌, Bool, true, false, List, [], ◌∷◌, ◌++◌, map, Option, Some, None, is_some, refl, sym, ap, subst, ◌∙◌, ◌⊎◌, inl, inr, if◌then◌else◌, append_assoc, append-nil}
+use Rattle.std.proofs.Common.{◌≡◌, ℕ, zero, suc, Bool, true, false, List, [], ◌∷◌, ◌++◌, map, Option, Some, None, is_some, refl, sym, ap, subst, ◌∙◌, inl, inr, if◌then◌else◌}
 use Rattle.std.specs.Prelude.{option_map}
 use Rattle.mql_forms.specs.Numbers.{form_number}
 use Rattle.mql_forms.specs.declared.form.Form.{Form}
 use Rattle.mql_forms.specs.declared.form.Form.TheVariants as form
-use Rattle.mql_grammar.specs.Expression.{Expression, part, stub, nothing, either, seq, many, among, Matches, InRow, Times}
+use Rattle.mql_grammar.specs.Expression.{Expression, seq, many, Matches, Times}
 use Rattle.mql_grammar.specs.Expressions.{a, a_token, expr, args, maybe, in_order, one_of, local_variables, local_or_list, more_variables, pointed, statement as statement_parts, expression_of}
-use Rattle.mql_grammar.specs.Forms.{Head}
 use Rattle.mql_grammar.specs.Numbers.{class_number}
 use Rattle.mql_grammar.specs.Table.{listed, both}
 use Rattle.mql_grammar.specs.declared.token_class.Class.{Class}
@@ -17,30 +16,27 @@ use Rattle.mql_tree.specs.declared.token.Span.{Span}
 use Rattle.mql_tree.specs.declared.token.Token.{Token}
 use Rattle.mql_tree.specs.declared.token.Tree.{Tree, out-Tree}
 use Rattle.mql_tree.specs.declared.token.Tree.TheOpen.{Tree-F}
-use Rattle.mql_views.specs.Cuts.{on, is, next, last, sign, ended, up_to, all_to}
+use Rattle.mql_views.specs.Cuts.{on, is, next, last, sign}
 use Rattle.mql_views.specs.Laws.{heads}
 use Rattle.mql_views.specs.Parts.{Part}
 use Rattle.mql_views.specs.Values.{in_braces}
 use Rattle.mql_views.specs.Declarations.{Variables, variables, local_words}
-use Rattle.mql_views.specs.Statements as views
-use Rattle.mql_views.specs.Statements.{tested, If, if_end, if_of, while_of, do_of, Simple, Locals, Values, local_or_values, simple, For, at_most_one, for_end, for_of, Switch, switch_of, return_of, delete_of}
-use Rattle.mql_views.proofs.Stands.{within, inside_head, away_head, avoids, edges_away, single, single_part, both_two, flat, flattened, opened, all_of, cut_one, cut_map, cut_row, one_part, front_away, front_within, nothing_left}
+use Rattle.mql_views.specs.Statements.{tested, if_end, if_of, while_of, do_of, Simple, Locals, Values, local_or_values, simple, For, at_most_one, for_end, for_of, switch_of, return_of, delete_of}
+use Rattle.mql_views.proofs.Stands.{away_head, edges_away, single_part, both_two, flat, flattened, opened, all_of, cut_one, cut_map, cut_row, one_part, front_away, front_within, nothing_left}
 use Rattle.mql_syntax.specs.Lists.{each}
 use Rattle.mql_syntax.specs.Leaves.{place_of, inner}
 use Rattle.mql_syntax.specs.Values.{items, value}
-use Rattle.mql_syntax.specs.Variables as read
 use Rattle.mql_syntax.specs.declared.kind.Place.{Place}
 use Rattle.mql_syntax.specs.declared.kind.StatementKind.{StatementKind}
 use Rattle.mql_syntax.specs.declared.kind.StatementKind.TheVariants as kind
 use Rattle.mql_syntax.specs.declared.statement.Statement.{Statement}
-use Rattle.mql_syntax_read.specs.Statements.{Piece, Whole, Begin, Case, Default, Shape, plain, simple_shape, listed as list_of_one, whole, label_or_whole, labelled, block_shape, simple_of, if_shape, repeated, while_shape, do_shape, for_shape, switch_shape, return_shape, delete_shape, shape, shape_in, shape_of, locals_of, stated, stated_alone, piece, statement}
+use Rattle.mql_syntax_read.specs.Statements.{Piece, Whole, Begin, Case, Default, Shape, plain, simple_shape, listed as list_of_one, whole, label_or_whole, labelled, block_shape, simple_of, if_shape, while_shape, do_shape, for_shape, switch_shape, return_shape, delete_shape, shape, shape_in, shape_of, locals_of, stated, piece, statement}
 use Rattle.mql_syntax_total.specs.Formed.{Every, IsFormed}
-use Rattle.mql_syntax_total.proofs.Gives.{false_true, Held, Has, Among, Gives, consists, every_among, front_among, sign_gives, next_gives, last_gives, last_on_gives, ended_gives, none_gives, maybe_gives, either_gives, flat_gives, cons_gives, map_gives, on_gives, up_to_gives, all_to_gives, lone_gives, has_on, has_map, given_by, every_front, every_back}
-use Rattle.mql_syntax_total.proofs.Pieces.{each_has}
+use Rattle.mql_syntax_total.proofs.Gives.{false_true, Held, Has, Among, Gives, every_among, front_among, sign_gives, next_gives, last_gives, last_on_gives, ended_gives, none_gives, maybe_gives, cons_gives, map_gives, up_to_gives, all_to_gives, lone_gives, has_on, has_map, given_by, every_front, every_back, every_both}
 use Rattle.mql_syntax_total.proofs.Tokens.{Is}
 use Rattle.mql_syntax_total.proofs.Trees.{inner_formed, node_form, no_leaf}
 use Rattle.mql_syntax_total.proofs.Types.{each_is, none_below}
-use Rattle.mql_syntax_total.proofs.Values.{value_cs, value_fs, ValuePart, items_good, value_read}
+use Rattle.mql_syntax_total.proofs.Values.{value_cs, value_fs, ValuePart, items_good}
 use Rattle.mql_syntax_total.proofs.Variables.{If as Maybe, VariablesGood, pointed_gives, worded_gives, values_read, variables_read}
 
 abbrev pub statement_fs : List ℕ
@@ -74,10 +70,6 @@ second_part cs es d x xs m = go (firsts_all es) d (goes_all es x.head (heads xs)
 every_join : {A : Type 0} (P : A → Type 0) (xs ys : List A) → Every P xs → Every P ys → Every P (xs ++ ys)
 every_join P [] ys g h = h
 every_join P (x ∷ xs) ys g h = (g.0, every_join P xs ys g.1 h)
-
-every_both : {A : Type 0} (P Q : A → Type 0) (xs : List A) → Every P xs → Every Q xs → Every (λ x. P x × Q x) xs
-every_both P Q [] g h = tt
-every_both P Q (x ∷ xs) g h = ((g.0, h.0), every_both P Q xs g.1 h.1)
 
 -- "(" test ")"
 tested_gives : {B : Type 0} {N : Type 0} {G : Part → Type 0} {Q : B → Type 0} (k : Part × List Part → Option B) (es : List Expression) → ((t : Part) → Among value_cs value_fs t → G t → Gives N G Q (λ zs. k (t, zs)) es)

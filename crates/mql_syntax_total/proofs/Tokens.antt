@@ -1,5 +1,5 @@
 -- Which tokens have which classes.
-use Rattle.std.proofs.Common.{◌≡◌, ℕ, zero, suc, ◌==◌, nat_eq, Bool, true, false, ◌&&◌, List, [], ◌∷◌, Option, Some, None, refl, sym, ap, subst, ◌∙◌, if◌then◌else◌}
+use Rattle.std.proofs.Common.{◌≡◌, ℕ, zero, suc, ◌==◌, Bool, true, false, ◌&&◌, List, [], ◌∷◌, Option, Some, None, refl, sym, ap, subst, ◌∙◌, if◌then◌else◌}
 use Rattle.std.specs.Prelude.{get_or, slice_get, unwrap_or}
 use Rattle.std.proofs.lemmas.Bool.{eqb-true}
 use Rattle.fx8.specs.declared.int_kind.IntKind.{IntKind}
@@ -17,7 +17,7 @@ use Rattle.mql_grammar.specs.Numbers.{class_number}
 use Rattle.mql_grammar.specs.Table.{listed}
 use Rattle.mql_grammar.specs.declared.token_class.Class.{Class}
 use Rattle.mql_grammar.specs.declared.token_class.Class.TheVariants as class
-use Rattle.mql_parse.specs.Classes.{Context, is_type, role_class, is_group, is_typename, plain_name_class, behind_dot, name_class, opens_arguments, is_generic, less_class, is_pointer, is_reference, around, int_class, token_class, after, classes_from}
+use Rattle.mql_parse.specs.Classes.{Context, is_type, is_group, is_typename, plain_name_class, behind_dot, name_class, opens_arguments, is_generic, less_class, is_pointer, is_reference, around, int_class, token_class, after, classes_from}
 use Rattle.mql_parse.specs.Spots.{same}
 use Rattle.mql_parse.specs.Words.{class_of_word, class_of_name, word_class, is_supplied, sign_class}
 use Rattle.mql_views.proofs.Stands.{apart, away, within, inside}
@@ -25,7 +25,7 @@ use Rattle.mql_syntax.specs.Leaves.{sign_of}
 use Rattle.mql_syntax_read.specs.Classes.{access_of, kind_of}
 use Rattle.mql_syntax_read.specs.Items.{text_of}
 use Rattle.mql_syntax.specs.Values.{binary_of, assignment_of, unary_of, step_of, word_value, token_value}
-use Rattle.mql_syntax_total.proofs.Gives.{false_true, Has}
+use Rattle.mql_syntax_total.proofs.Gives.{false_true, Has, and_false}
 
 abbrev pub Is : {A : Type 0} → Option A → Type 0
 Is o = Has (λ x. Unit {0}) o
@@ -212,10 +212,6 @@ word_type words.Union = refl
 word_type words.Sizeof = refl
 word_type words.Operator = refl
 word_type words.Namespace = refl
-
-and_false : (b : Bool) → (b && false) ≡ false
-and_false true = refl
-and_false false = refl
 
 -- a word stays one behind `.`
 dot_keeps : (x : Context) (c : Class) → same c class.TypeName ≡ false → behind_dot x.spot c ≡ c

@@ -1,6 +1,5 @@
 -- The parts of the nodes of trees that follow the grammar.
-use Rattle.std.proofs.Common.{◌≡◌, ℕ, zero, suc, ◌+◌, ◌<◌, ◌≤◌, max, Bool, true, false, List, [], ◌∷◌, ◌++◌, map, Option, Some, None, refl, sym, ap, subst, ◌∙◌, append_assoc, append-nil, arith}
-use Rattle.std.specs.Prelude.{get_or, slice_get}
+use Rattle.std.proofs.Common.{◌≡◌, ℕ, suc, ◌+◌, ◌<◌, ◌≤◌, max, true, List, [], ◌∷◌, ◌++◌, map, Some, refl, sym, ap, subst, ◌∙◌, append_assoc, append-nil, arith}
 use Rattle.mql_forms.specs.Numbers.{form_number}
 use Rattle.mql_forms.specs.declared.form.Form.{Form}
 use Rattle.mql_grammar.specs.Expression.{among, Matches}
@@ -22,11 +21,11 @@ use Rattle.mql_parse.specs.View.{with_parts, spine_step, spine_of, class_at as p
 use Rattle.mql_parse.specs.Words.{sign_class}
 use Rattle.mql_views.specs.Cuts.{on}
 use Rattle.mql_views.specs.Laws.{heads}
-use Rattle.mql_views.specs.Parts.{Part, counted, nodes, number_of, class_at, head_in, parts_from}
+use Rattle.mql_views.specs.Parts.{Part, counted, nodes, class_at, head_in, parts_from}
 use Rattle.mql_views.proofs.Stands.{apart, away, within, inside}
 use Rattle.mql_syntax.specs.Leaves.{token_of, token_in, token, name, sign, sign_of, parts_in, inner}
 use Rattle.mql_syntax_total.specs.Formed.{Every, IsFormed}
-use Rattle.mql_syntax_total.proofs.Gives.{false_true, Has, Among, has_on}
+use Rattle.mql_syntax_total.proofs.Gives.{false_true, Has, Among}
 use Rattle.mql_syntax_total.proofs.Tokens.{Is, token_there, name_was, sign_was, odd, low}
 
 -- a tree and its spine

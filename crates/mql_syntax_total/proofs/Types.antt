@@ -1,15 +1,13 @@
 -- Types are read.
-use Rattle.std.proofs.Common.{◌≡◌, ℕ, zero, suc, ◌+◌, ◌<◌, Bool, true, false, not, ◌&&◌, nat_eq, List, [], ◌∷◌, ◌++◌, map, Option, Some, None, refl, sym, ap, subst, ◌∙◌, ◌⊎◌, inl, inr, if◌then◌else◌, append_assoc, arith}
+use Rattle.std.proofs.Common.{◌≡◌, ℕ, zero, suc, ◌<◌, Bool, true, List, [], ◌∷◌, Option, Some, None, refl, sym, ap, subst, arith}
 use Rattle.std.specs.Prelude.{option_map}
 use Rattle.mql_forms.specs.Numbers.{form_number}
 use Rattle.mql_forms.specs.declared.form.Form.{Form}
 use Rattle.mql_forms.specs.declared.form.Form.TheVariants as form
-use Rattle.mql_grammar.specs.Expression.{Expression, part, stub, nothing, either, seq, many, among, Matches, InRow, Times}
+use Rattle.mql_grammar.specs.Expression.{Expression, part, seq, many, Matches}
 use Rattle.mql_grammar.specs.Expressions.{a, expression_of, pointed_alone, list_of, type_arguments, generic_type_parts, generic_function_parts}
-use Rattle.mql_grammar.specs.Forms.{Head, of_class, of_form}
 use Rattle.mql_grammar.specs.Numbers.{class_number}
 use Rattle.mql_grammar.specs.Table.{listed, both}
-use Rattle.mql_grammar.specs.declared.token_class.Class.{Class}
 use Rattle.mql_grammar.specs.declared.token_class.Class.TheVariants as class
 use Rattle.mql_grammar.proofs.Derivatives.{MatchesAll}
 use Rattle.mql_tree.specs.declared.token.Span.{Span}
@@ -17,22 +15,21 @@ use Rattle.mql_tree.specs.declared.token.Token.{Token}
 use Rattle.mql_tree.specs.declared.token.Tree.{Tree, out-Tree}
 use Rattle.mql_tree.specs.declared.token.Tree.TheOpen.{Tree-F}
 use Rattle.mql_parse.specs.Classes.{classes_of}
-use Rattle.mql_views.specs.Cuts.{on, is, may, ended}
+use Rattle.mql_views.specs.Cuts.{on, is, ended}
 use Rattle.mql_views.specs.Laws.{heads}
 use Rattle.mql_views.specs.Parts.{Part}
 use Rattle.mql_views.specs.Values.{Call, generic, stars}
 use Rattle.mql_views.specs.Declarations.{Typed, type_words, type_forms as grammar_forms, type_argument}
-use Rattle.mql_views.proofs.Stands.{within, inside_head, all_of, opened, avoids}
+use Rattle.mql_views.proofs.Stands.{within, inside_head, all_of, opened}
 use Rattle.mql_syntax.specs.Lists.{each, pieces}
 use Rattle.mql_syntax.specs.Leaves.{name, place_of, inner}
 use Rattle.mql_syntax.specs.Types.{Named, generic_named, named_in, named, type_use}
 use Rattle.mql_syntax.specs.declared.kind.Place.{Place}
-use Rattle.mql_syntax.specs.declared.value.TypeUse.TheVariants as made
 use Rattle.mql_syntax_total.specs.Formed.{Every, IsFormed}
-use Rattle.mql_syntax_total.proofs.Gives.{false_true, Has, Among, Gives, sign_gives, must_gives, next_gives, ended_gives, may_gives, either_gives, flat_gives, seq_gives, map_gives, all_to_gives, on_gives, lone_gives, has_on, has_map, given_by}
+use Rattle.mql_syntax_total.proofs.Gives.{false_true, Has, Among, Gives, sign_gives, must_gives, next_gives, ended_gives, may_gives, either_gives, flat_gives, seq_gives, map_gives, on_gives, lone_gives, has_on, has_map}
 use Rattle.mql_syntax_total.proofs.Pieces.{calm_of, pieces_are, each_has}
 use Rattle.mql_syntax_total.proofs.Tokens.{Is}
-use Rattle.mql_syntax_total.proofs.Trees.{inner_formed, IsToken, leaf_token, node_form, name_there, name_of_token}
+use Rattle.mql_syntax_total.proofs.Trees.{inner_formed, leaf_token, node_form, name_there, name_of_token}
 
 abbrev pub type_cs : List ℕ
 type_cs = 0 ∷ 1 ∷ 2 ∷ 3 ∷ []

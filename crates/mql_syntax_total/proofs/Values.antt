@@ -1,39 +1,37 @@
 -- Values are read.
-use Rattle.std.proofs.Common.{◌≡◌, ℕ, zero, suc, ◌<◌, Bool, true, false, List, [], ◌∷◌, map, Option, Some, None, refl, sym, ap, subst, ◌∙◌, inl, inr, if◌then◌else◌}
+use Rattle.std.proofs.Common.{◌≡◌, ℕ, zero, suc, Bool, true, false, List, [], ◌∷◌, Option, Some, None, refl, sym, ap, subst, ◌∙◌}
 use Rattle.std.specs.Prelude.{option_map}
 use Rattle.mql_forms.specs.Numbers.{form_number}
 use Rattle.mql_forms.specs.declared.form.Form.{Form}
 use Rattle.mql_forms.specs.declared.form.Form.TheVariants as form
-use Rattle.mql_grammar.specs.Expression.{Expression, part, stub, nothing, either, seq, many, among, Matches}
-use Rattle.mql_grammar.specs.Expressions.{a, expression_of, args, init, list_of, maybe}
+use Rattle.mql_grammar.specs.Expression.{Expression, Matches}
+use Rattle.mql_grammar.specs.Expressions.{expression_of, args, init, list_of, maybe}
 use Rattle.mql_grammar.specs.Numbers.{class_number}
 use Rattle.mql_grammar.specs.Table.{listed}
-use Rattle.mql_grammar.specs.declared.token_class.Class.{Class}
 use Rattle.mql_grammar.specs.declared.token_class.Class.TheVariants as class
 use Rattle.mql_parse.specs.Classes.{classes_of}
 use Rattle.mql_parse.specs.Words.{sign_class}
-use Rattle.mql_spelling.specs.declared.sign.Sign.{Sign}
 use Rattle.mql_tree.specs.declared.token.Span.{Span}
 use Rattle.mql_tree.specs.declared.token.Token.{Token}
 use Rattle.mql_tree.specs.declared.token.Tree.{Tree, out-Tree}
 use Rattle.mql_tree.specs.declared.token.Tree.TheOpen.{Tree-F}
-use Rattle.mql_views.specs.Cuts.{on, is, sign as sign_cut, may, all_to}
+use Rattle.mql_views.specs.Cuts.{on, is, sign as sign_cut, all_to}
 use Rattle.mql_views.specs.Laws.{heads}
 use Rattle.mql_views.specs.Parts.{Part}
-use Rattle.mql_views.specs.Values.{Bracket, Inner, Cast, Between, Conditional, Call, stars, pair, between, conditional, index, conversion, bracket, bracket_end, call, new_arguments, new_object, dynamic_value, dynamic_cast, in_braces}
-use Rattle.mql_views.proofs.Stands.{within, apart, avoids, single, flat, all_of, nothing_left}
+use Rattle.mql_views.specs.Values.{Bracket, Between, pair, between, conditional, index, conversion, bracket, bracket_end, call, new_arguments, new_object, dynamic_value, dynamic_cast, in_braces}
+use Rattle.mql_views.proofs.Stands.{single, flat, nothing_left}
 use Rattle.mql_syntax.specs.Lists.{each}
 use Rattle.mql_syntax.specs.Leaves.{name, sign, place_of, token, inner}
 use Rattle.mql_syntax.specs.Types.{Named, generic_named, type_use}
-use Rattle.mql_syntax.specs.Values.{Shape, plain, with_type, items, in_bracket, bracket_shape, index_shape, dynamic_cast_shape, conversion_shape, braces_shape, conditional_shape, call_shape, new_shape, unary_shape, postfix_shape, binary_shape, assignment_shape, member_shape, scope_shape, generic_shape, form_shape, shape_in, shape, value, binary_of, assignment_of, unary_of, step_of, token_value}
+use Rattle.mql_syntax.specs.Values.{Shape, plain, items, in_bracket, bracket_shape, index_shape, dynamic_cast_shape, conversion_shape, braces_shape, conditional_shape, call_shape, new_shape, unary_shape, postfix_shape, binary_shape, assignment_shape, member_shape, scope_shape, generic_shape, form_shape, shape_in, shape, value, binary_of, assignment_of, unary_of, step_of, token_value}
 use Rattle.mql_syntax.specs.declared.kind.Place.{Place}
 use Rattle.mql_syntax.specs.declared.value.Operation.TheVariants as operation
 use Rattle.mql_syntax_total.specs.Formed.{Every, IsFormed}
 use Rattle.mql_syntax_total.proofs.Gives.{false_true, Has, Among, Gives, consists, every_among, front_among, sign_gives, next_gives, last_gives, ended_gives, none_gives, may_gives, may_not_gives, maybe_gives, either_gives, flat_gives, cons_gives, map_gives, lone_gives, on_gives, has_on, has_map, given_by}
 use Rattle.mql_syntax_total.proofs.Pieces.{each_has, items_among}
-use Rattle.mql_syntax_total.proofs.Tokens.{Is, value_was, unarys, unary_was, binarys, binary_was, assignments, assignment_was, steps, step_was, odd, low}
+use Rattle.mql_syntax_total.proofs.Tokens.{Is, value_was, unarys, unary_was, binarys, binary_was, assignments, assignment_was, steps, step_was}
 use Rattle.mql_syntax_total.proofs.Trees.{inner_formed, IsToken, leaf_token, node_form, name_there, sign_there}
-use Rattle.mql_syntax_total.proofs.Types.{type_cs, type_fs, TypePart, TypeGood, NamedGood, is_has, each_is, among_more, generic_type_has, generic_function_has, type_read, none_below}
+use Rattle.mql_syntax_total.proofs.Types.{type_cs, type_fs, TypePart, TypeGood, NamedGood, is_has, each_is, generic_type_has, generic_function_has, type_read, none_below}
 
 abbrev pub value_cs : List ℕ
 value_cs = 0 ∷ 1 ∷ 4 ∷ 5 ∷ 6 ∷ 8 ∷ []

@@ -1,41 +1,38 @@
 -- Variables are read.
-use Rattle.std.proofs.Common.{◌≡◌, ℕ, zero, suc, ◌+◌, Bool, true, false, List, [], ◌∷◌, ◌++◌, map, take, drop, length, Option, Some, None, refl, sym, ap, subst, ◌∙◌, ◌⊎◌, inl, inr, if◌then◌else◌, append_assoc, append-nil, nat_eq}
+use Rattle.std.proofs.Common.{◌≡◌, ℕ, ◌+◌, Bool, true, false, List, [], ◌∷◌, ◌++◌, map, take, drop, length, Option, Some, None, refl, sym, ap, subst, ◌∙◌, inl, inr, if◌then◌else◌, append_assoc, append-nil, nat_eq}
 use Rattle.std.specs.Prelude.{option_map}
 use Rattle.mql_forms.specs.Numbers.{form_number}
-use Rattle.mql_forms.specs.declared.form.Form.{Form}
-use Rattle.mql_grammar.specs.Expression.{Expression, part, stub, nothing, either, seq, many, among, Matches, InRow, Times}
-use Rattle.mql_grammar.specs.Expressions.{a, a_token, name as name_parts, args, init, dims, maybe, in_order, pointed, pointed_alone, one_of, scoped as scoped_parts, var, more_variables}
+use Rattle.mql_grammar.specs.Expression.{Expression, part, nothing, either, seq, many, among, Matches}
+use Rattle.mql_grammar.specs.Expressions.{a, name as name_parts, args, init, dims, maybe, in_order, pointed, pointed_alone, one_of, scoped as scoped_parts, var, more_variables}
 use Rattle.mql_grammar.specs.Forms.{Head, of_class, of_form}
-use Rattle.mql_grammar.specs.Table.{listed, both}
+use Rattle.mql_grammar.specs.Table.{listed}
 use Rattle.mql_grammar.specs.Numbers.{class_number}
 use Rattle.mql_grammar.specs.declared.token_class.Class.{Class}
 use Rattle.mql_grammar.specs.declared.token_class.Class.TheVariants as class
-use Rattle.mql_grammar.proofs.Derivatives.{MatchesAll, firsts_all, nullable_all, all_empty}
+use Rattle.mql_grammar.proofs.Derivatives.{MatchesAll, firsts_all, all_empty}
 use Rattle.mql_parse.specs.Classes.{classes_of}
 use Rattle.mql_tree.specs.declared.token.Span.{Span}
 use Rattle.mql_tree.specs.declared.token.Token.{Token}
-use Rattle.mql_views.specs.Cuts.{on, is, run, until, must, last, sign, may, all_to}
+use Rattle.mql_views.specs.Cuts.{on, is, until, must, last, sign, all_to}
 use Rattle.mql_views.specs.Laws.{heads}
 use Rattle.mql_views.specs.Parts.{Part}
 use Rattle.mql_views.specs.Values.{stars}
 use Rattle.mql_views.specs.Declarations as views
 use Rattle.mql_views.specs.Declarations.{Typed, type_words, type_forms as grammar_forms, scoped, start_of, variable_end, variables_typed}
-use Rattle.mql_views.proofs.Stands.{within, inside_head, avoids, all_away, AllAway, edges_away, edges_within, single, flat, flattened, opened, all_of, cut_one, cut_map, cut_row, one_part, cut_single, front_away, front_within, nothing_left, one_suc, split_run, inside, both_two}
+use Rattle.mql_views.proofs.Stands.{within, avoids, all_away, AllAway, edges_away, flat, flattened, opened, all_of, cut_one, cut_row, front_away, nothing_left, one_suc}
 use Rattle.mql_views.proofs.DeclarationForms.{until_is}
 use Rattle.mql_syntax.specs.Lists.{each, maybe as maybe_read, pieces}
 use Rattle.mql_syntax.specs.Leaves.{name}
 use Rattle.mql_syntax.specs.Types.{type_use}
 use Rattle.mql_syntax.specs.Values.{items, value}
 use Rattle.mql_syntax.specs.Variables.{words_among, sizes_from, dimension, start, variable_of, variable_in, variable, variables}
-use Rattle.mql_syntax.specs.declared.declaration.Dimension.TheVariants as dimensions
-use Rattle.mql_syntax.specs.declared.declaration.Start.TheVariants as starts
 use Rattle.mql_syntax.specs.declared.declaration.Words.{Words}
 use Rattle.mql_syntax.specs.declared.kind.Place.{Place}
 use Rattle.mql_syntax_total.specs.Formed.{Every, IsFormed}
-use Rattle.mql_syntax_total.proofs.Gives.{false_true, Held, Has, every_front, every_back, every_take, every_drop, Among, Gives, consists, every_among, front_among, sign_gives, must_gives, last_gives, none_gives, may_gives, maybe_gives, either_gives, flat_gives, seq_gives, cons_gives, map_gives, lone_gives, has_on, has_map}
-use Rattle.mql_syntax_total.proofs.Pieces.{Calm, calm_join, calm_nil, calm_of, calm_enclosed, pieces_are, each_has}
+use Rattle.mql_syntax_total.proofs.Gives.{Held, Has, every_take, every_drop, Among, Gives, every_among, front_among, sign_gives, must_gives, may_gives, maybe_gives, either_gives, flat_gives, seq_gives, map_gives, lone_gives, has_on, has_map, run_gives}
+use Rattle.mql_syntax_total.proofs.Pieces.{Calm, calm_join, calm_nil, calm_of, calm_enclosed, pieces_are}
 use Rattle.mql_syntax_total.proofs.Tokens.{Is}
-use Rattle.mql_syntax_total.proofs.Types.{type_cs, type_fs, TypePart, among_more, is_has, each_is, type_read}
+use Rattle.mql_syntax_total.proofs.Types.{type_cs, type_fs, TypePart, among_more, each_is, type_read}
 use Rattle.mql_syntax_total.proofs.Values.{value_cs, value_fs, name_cs, ValuePart, items_good, is_name, value_read}
 
 -- [NAME "::"]: there is none where what is behind the first part begins otherwise
@@ -66,29 +63,6 @@ scoped_gives {N = N} {G = G} {Q = Q} k es none st = maybe_gives (λ xs. k (scope
           subst (Held N Q) (sym (ap (λ xs. k (scoped xs)) p ∙ ap (λ (b : Bool). k (if b then (Some r.0, c.1) else (None, r.0 ∷ c.0 ∷ c.1))) c.3))
           ((st (Some r.0) (h.0, r.3)).there c.1 c.4 h.1.1);
     })
-
--- a front of such tokens, and what is left begins with none
-run_none : (cs : List Class) (es : List Expression) → edges_away (map class_number cs) [] (firsts_all es) ≡ true → (xs : List Part) → MatchesAll es (heads xs) → run cs xs ≡ 0
-run_none cs es d [] m = refl
-run_none cs es d (x ∷ xs) m = ap (λ (b : Bool). if b then 1 + run cs xs else 0) (front_away cs es d x xs m)
-
-pub run_gives : {B : Type 0} {N : Type 0} {G : Part → Type 0} {Q : B → Type 0} (cs : List Class) (ds : List ℕ) (k : List Part × List Part → Option B) (es : List Expression) → within ds (map class_number cs) ≡ true → edges_away (map class_number cs) [] (firsts_all es) ≡ true
-    → ((ys : List Part) → Every (Among ds []) ys → Gives N G Q (λ zs. k (ys, zs)) es) → Gives N G Q (λ xs. k (split_run cs xs)) (many (part ds []) ∷ es)
-unfolding is
-run_gives {B = B} {N = N} {G = G} {Q = Q} cs ds k es h d st = record { there = λ xs m g. walk m.3.0 xs (m.0, m.1, m.2, m.3.1, m.4) g k st }
-  where
-    walk : (n : ℕ) (xs : List Part) → InRow (Times n (Matches (part ds []))) (MatchesAll es) (heads xs) → Every G xs → (k : List Part × List Part → Option B) → ((ys : List Part) → Every (Among ds []) ys → Gives N G Q (λ zs. k (ys, zs)) es) → Held N Q (k (split_run cs xs))
-    walk zero xs m g k st =
-        let here : MatchesAll es (heads xs) = subst (MatchesAll es) (sym (m.2 ∙ ap (λ us. us ++ m.1) m.3)) m.4 in
-        subst (Held N Q) (sym (ap (λ n. k (take n xs, drop n xs)) (run_none cs es d xs here))) ((st [] tt).there xs here g)
-    walk (suc n) xs m g k st =
-        let r = cut_map xs m.3.0 (m.3.1 ++ m.1) (m.2 ∙ ap (λ us. us ++ m.1) m.3.2 ∙ append_assoc m.3.0 m.3.1 m.1) in
-        let o = one_part ds [] r.0 (subst (Matches (part ds [])) (sym r.3) m.3.3) in
-        let p = r.2 ∙ ap (λ ys. ys ++ r.1) o.1 in
-        subst (Held N Q) (sym (ap (λ xs. k (split_run cs xs)) p
-        ∙ ap (λ (b : Bool). k (let n = (if b then 1 + run cs r.1 else 0) in (take n (o.0 ∷ r.1), drop n (o.0 ∷ r.1)))) (inside_head (map class_number cs) [] ds [] o.0.head h refl o.2)
-        ∙ ap (λ n. k (take n (o.0 ∷ r.1), drop n (o.0 ∷ r.1))) (one_suc (run cs r.1))))
-        (walk n r.1 (m.3.1, m.1, r.4, m.3.4, m.4) (subst (Every G) p g).1 (λ p. k (o.0 ∷ p.0, p.1)) (λ ys f. st (o.0 ∷ ys) (o.2, f)))
 
 -- two rows as one
 pub joined : (d e : Expression) (es : List Expression) (hs : List Head) → MatchesAll (d ∷ e ∷ es) hs → MatchesAll (seq d e ∷ es) hs
@@ -302,7 +276,7 @@ module _ (tokens : List (Token × Span)) (n : ℕ) where
   pub worded_gives : (words : List Class) (ds : List ℕ) (es : List Expression) → within ds (map class_number words) ≡ true → edges_away (map class_number words) [] (firsts_all es) ≡ true
       → ((ws : List Part) → Gives ⊥ Good VariablesGood (variables_typed ws) es) → Gives ⊥ Good VariablesGood (views.variables words) (many (part ds []) ∷ es)
   unfolding views.variables
-  worded_gives words ds es h d st = run_gives words ds (λ p. variables_typed p.0 p.1) es h d (λ ys f. st ys)
+  worded_gives words ds es h d st = run_gives words ds (λ p. variables_typed p.0 p.1) es h d st
 
 -- variables are read
 module _ (tokens : List (Token × Span)) (n : ℕ) (place : Place) where

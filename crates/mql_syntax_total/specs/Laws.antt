@@ -1,14 +1,10 @@
 -- What is proved of reading.
-use Rattle.std.specs.Prelude.{◌≡◌, ℕ, suc, true, List, [], ◌∷◌, Result, Ok, is_some}
-use Rattle.mql_forms.specs.declared.form.Form.{Form}
-use Rattle.mql_forms.specs.declared.form.Form.TheVariants as form
-use Rattle.mql_grammar.specs.declared.token_class.Class.TheVariants as class
+use Rattle.std.specs.Prelude.{◌≡◌, ℕ, suc, true, List, Ok, is_some}
 use Rattle.mql_parse.specs.Classes.{classes_of}
 use Rattle.mql_parse.specs.Parsed.{IsParsed}
 use Rattle.mql_tree.specs.declared.token.Span.{Span}
 use Rattle.mql_tree.specs.declared.token.Token.{Token}
 use Rattle.mql_tree.specs.declared.token.Tree.{Tree}
-use Rattle.mql_views.specs.Cuts.{is}
 use Rattle.mql_views.specs.Declarations.{Typed}
 use Rattle.mql_views.specs.Parts.{Part}
 use Rattle.mql_syntax.specs.Leaves.{part_from, inner}
