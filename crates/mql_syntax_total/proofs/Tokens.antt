@@ -1,5 +1,5 @@
 -- Which tokens have which classes.
-use Rattle.std.proofs.Common.{◌≡◌, ℕ, zero, suc, ◌==◌, Bool, true, false, ◌&&◌, List, [], ◌∷◌, Option, Some, None, refl, sym, ap, subst, ◌∙◌, if◌then◌else◌}
+use Rattle.std.proofs.Common.{◌≡◌, ℕ, zero, suc, ◌==◌, Bool, true, false, ◌&&◌, List, [], ◌∷◌, Option, Some, None, refl, sym, ap, subst, ◌∙◌, if◌then◌else◌, not, is_some}
 use Rattle.std.specs.Prelude.{get_or, slice_get, unwrap_or}
 use Rattle.std.proofs.lemmas.Bool.{eqb-true}
 use Rattle.fx8.specs.declared.int_kind.IntKind.{IntKind}
@@ -14,13 +14,13 @@ use Rattle.mql_tree.specs.declared.token.Span.{Span}
 use Rattle.mql_tree.specs.declared.token.Token.{Token}
 use Rattle.mql_tree.specs.declared.token.Token.TheVariants as token
 use Rattle.mql_grammar.specs.Numbers.{class_number}
-use Rattle.mql_grammar.specs.Table.{listed}
+use Rattle.mql_grammar.specs.Table.{listed, both}
 use Rattle.mql_grammar.specs.declared.token_class.Class.{Class}
 use Rattle.mql_grammar.specs.declared.token_class.Class.TheVariants as class
 use Rattle.mql_parse.specs.Classes.{Context, is_type, is_group, is_typename, plain_name_class, behind_dot, name_class, opens_arguments, is_generic, less_class, is_pointer, is_reference, around, int_class, token_class, after, classes_from}
 use Rattle.mql_parse.specs.Spots.{same}
 use Rattle.mql_parse.specs.Words.{class_of_word, class_of_name, word_class, is_supplied, sign_class}
-use Rattle.mql_views.proofs.Stands.{apart, away, within, inside}
+use Rattle.mql_views.proofs.Stands.{apart, away, within, inside, both_two}
 use Rattle.mql_syntax.specs.Leaves.{sign_of}
 use Rattle.mql_syntax_read.specs.Classes.{access_of, kind_of}
 use Rattle.mql_syntax_read.specs.Items.{text_of}
@@ -29,6 +29,10 @@ use Rattle.mql_syntax_total.proofs.Gives.{false_true, Has, and_false}
 
 abbrev pub Is : {A : Type 0} → Option A → Type 0
 Is o = Has (λ x. Unit {0}) o
+
+some_is : {A : Type 0} (o : Option A) → is_some o ≡ true → Is o
+some_is None h = false_true h
+some_is (Some x) h = tt
 
 -- the token at a place, whose class is not that of the end mark
 pub token_there : (x : Context) (ts : List (Token × Span)) (k : ℕ) → (listed (class_number (get_or (classes_from x ts) k class.EndMark)) (69 ∷ []) ≡ false)
@@ -105,113 +109,167 @@ int_among v kind.Ulong = refl
 int_among v kind.Datetime = refl
 int_among v kind.Color = refl
 
+-- what holds of each word and of each sign, by one look at each
+abbrev implies : Bool → Bool → Bool
+implies true b = b
+implies false b = true
+
+implied : (a b : Bool) → implies a b ≡ true → a ≡ true → b ≡ true
+implied true b h e = h
+implied false b h e = false_true e
+
+abbrev all_so : List Bool → Bool
+all_so [] = true
+all_so (b ∷ bs) = both b (λ _. all_so bs)
+
+-- the fact at a place
+at_place : (k : ℕ) (bs : List Bool) → all_so bs ≡ true → get_or bs k true ≡ true
+at_place k [] h = refl
+at_place zero (b ∷ bs) h = (both_two b (all_so bs) h).0
+at_place (suc k) (b ∷ bs) h = at_place k bs (both_two b (all_so bs) h).1
+
+abbrev word_facts : List ℕ → ReservedWord → List Bool
+word_facts name w =
+    let c = class_number (class_of_word w) in
+    listed c named
+    ∷ not (same (class_of_word w) class.TypeName)
+    ∷ implies (listed c values) (is_some (word_value name (Some w)))
+    ∷ implies (listed c (16 ∷ [])) (is_some (kind_of w))
+    ∷ implies (listed c (17 ∷ [])) (is_some (access_of w)) ∷ []
+
+words_checked : (name : List ℕ) (w : ReservedWord) → all_so (word_facts name w) ≡ true
+unfolding class_of_word class_number word_value kind_of access_of
+words_checked name words.Bool = refl
+words_checked name words.Char = refl
+words_checked name words.Uchar = refl
+words_checked name words.Short = refl
+words_checked name words.Ushort = refl
+words_checked name words.Int = refl
+words_checked name words.Uint = refl
+words_checked name words.Long = refl
+words_checked name words.Ulong = refl
+words_checked name words.Datetime = refl
+words_checked name words.Color = refl
+words_checked name words.Double = refl
+words_checked name words.String = refl
+words_checked name words.Void = refl
+words_checked name words.True = refl
+words_checked name words.False = refl
+words_checked name words.Null = refl
+words_checked name words.This = refl
+words_checked name words.Input = refl
+words_checked name words.StaticInput = refl
+words_checked name words.Static = refl
+words_checked name words.Const = refl
+words_checked name words.Template = refl
+words_checked name words.Enum = refl
+words_checked name words.Class = refl
+words_checked name words.Struct = refl
+words_checked name words.Interface = refl
+words_checked name words.Public = refl
+words_checked name words.Protected = refl
+words_checked name words.Private = refl
+words_checked name words.Virtual = refl
+words_checked name words.Override = refl
+words_checked name words.If = refl
+words_checked name words.Else = refl
+words_checked name words.While = refl
+words_checked name words.Do = refl
+words_checked name words.For = refl
+words_checked name words.Switch = refl
+words_checked name words.Case = refl
+words_checked name words.Default = refl
+words_checked name words.Break = refl
+words_checked name words.Continue = refl
+words_checked name words.Return = refl
+words_checked name words.Delete = refl
+words_checked name words.New = refl
+words_checked name words.DynamicCast = refl
+words_checked name words.Float = refl
+words_checked name words.Union = refl
+words_checked name words.Sizeof = refl
+words_checked name words.Operator = refl
+words_checked name words.Namespace = refl
+
+abbrev pub unarys : List ℕ
+unarys = 47 ∷ 48 ∷ 49 ∷ 50 ∷ 60 ∷ 68 ∷ []
+
+abbrev pub binarys : List ℕ
+binarys = 49 ∷ 50 ∷ 52 ∷ 53 ∷ 54 ∷ 57 ∷ 58 ∷ 59 ∷ 60 ∷ 62 ∷ 63 ∷ 64 ∷ 65 ∷ []
+
+abbrev pub assignments : List ℕ
+assignments = 66 ∷ 67 ∷ []
+
+abbrev pub steps : List ℕ
+steps = 68 ∷ []
+
+abbrev sign_facts : Sign → List Bool
+sign_facts s =
+    let c = class_number (sign_class s) in
+    implies (listed c low) (listed c (70 ∷ []))
+    ∷ implies (listed c unarys) (is_some (unary_of s))
+    ∷ implies (listed c binarys) (is_some (binary_of s))
+    ∷ implies (listed c assignments) (is_some (assignment_of s))
+    ∷ implies (listed c steps) (is_some (step_of s)) ∷ []
+
+signs_checked : (s : Sign) → all_so (sign_facts s) ≡ true
+unfolding sign_class class_number unary_of binary_of assignment_of step_of
+signs_checked signs.ParenthesisOpen = refl
+signs_checked signs.ParenthesisClose = refl
+signs_checked signs.BracketOpen = refl
+signs_checked signs.BracketClose = refl
+signs_checked signs.BraceOpen = refl
+signs_checked signs.BraceClose = refl
+signs_checked signs.Semicolon = refl
+signs_checked signs.Comma = refl
+signs_checked signs.Dot = refl
+signs_checked signs.Colon = refl
+signs_checked signs.DoubleColon = refl
+signs_checked signs.Question = refl
+signs_checked signs.Tilde = refl
+signs_checked signs.Not = refl
+signs_checked signs.Plus = refl
+signs_checked signs.Minus = refl
+signs_checked signs.Star = refl
+signs_checked signs.Slash = refl
+signs_checked signs.Percent = refl
+signs_checked signs.ShiftLeft = refl
+signs_checked signs.ShiftRight = refl
+signs_checked signs.Less = refl
+signs_checked signs.LessOrEqual = refl
+signs_checked signs.Greater = refl
+signs_checked signs.GreaterOrEqual = refl
+signs_checked signs.Equal = refl
+signs_checked signs.NotEqual = refl
+signs_checked signs.Ampersand = refl
+signs_checked signs.Caret = refl
+signs_checked signs.Bar = refl
+signs_checked signs.And = refl
+signs_checked signs.Or = refl
+signs_checked signs.Assign = refl
+signs_checked signs.PlusAssign = refl
+signs_checked signs.MinusAssign = refl
+signs_checked signs.StarAssign = refl
+signs_checked signs.SlashAssign = refl
+signs_checked signs.PercentAssign = refl
+signs_checked signs.ShiftLeftAssign = refl
+signs_checked signs.ShiftRightAssign = refl
+signs_checked signs.AmpersandAssign = refl
+signs_checked signs.CaretAssign = refl
+signs_checked signs.BarAssign = refl
+signs_checked signs.Increment = refl
+signs_checked signs.Decrement = refl
+signs_checked signs.Hash = refl
+
 word_low : (w : ReservedWord) → listed (class_number (class_of_word w)) named ≡ true
-unfolding class_of_word class_number
-word_low words.Bool = refl
-word_low words.Char = refl
-word_low words.Uchar = refl
-word_low words.Short = refl
-word_low words.Ushort = refl
-word_low words.Int = refl
-word_low words.Uint = refl
-word_low words.Long = refl
-word_low words.Ulong = refl
-word_low words.Datetime = refl
-word_low words.Color = refl
-word_low words.Double = refl
-word_low words.String = refl
-word_low words.Void = refl
-word_low words.True = refl
-word_low words.False = refl
-word_low words.Null = refl
-word_low words.This = refl
-word_low words.Input = refl
-word_low words.StaticInput = refl
-word_low words.Static = refl
-word_low words.Const = refl
-word_low words.Template = refl
-word_low words.Enum = refl
-word_low words.Class = refl
-word_low words.Struct = refl
-word_low words.Interface = refl
-word_low words.Public = refl
-word_low words.Protected = refl
-word_low words.Private = refl
-word_low words.Virtual = refl
-word_low words.Override = refl
-word_low words.If = refl
-word_low words.Else = refl
-word_low words.While = refl
-word_low words.Do = refl
-word_low words.For = refl
-word_low words.Switch = refl
-word_low words.Case = refl
-word_low words.Default = refl
-word_low words.Break = refl
-word_low words.Continue = refl
-word_low words.Return = refl
-word_low words.Delete = refl
-word_low words.New = refl
-word_low words.DynamicCast = refl
-word_low words.Float = refl
-word_low words.Union = refl
-word_low words.Sizeof = refl
-word_low words.Operator = refl
-word_low words.Namespace = refl
+word_low w = at_place 0 (word_facts [] w) (words_checked [] w)
+
+not_so : (b : Bool) → not b ≡ true → b ≡ false
+not_so true h = false_true h
+not_so false h = refl
 
 word_type : (w : ReservedWord) → same (class_of_word w) class.TypeName ≡ false
-unfolding class_of_word class_number
-word_type words.Bool = refl
-word_type words.Char = refl
-word_type words.Uchar = refl
-word_type words.Short = refl
-word_type words.Ushort = refl
-word_type words.Int = refl
-word_type words.Uint = refl
-word_type words.Long = refl
-word_type words.Ulong = refl
-word_type words.Datetime = refl
-word_type words.Color = refl
-word_type words.Double = refl
-word_type words.String = refl
-word_type words.Void = refl
-word_type words.True = refl
-word_type words.False = refl
-word_type words.Null = refl
-word_type words.This = refl
-word_type words.Input = refl
-word_type words.StaticInput = refl
-word_type words.Static = refl
-word_type words.Const = refl
-word_type words.Template = refl
-word_type words.Enum = refl
-word_type words.Class = refl
-word_type words.Struct = refl
-word_type words.Interface = refl
-word_type words.Public = refl
-word_type words.Protected = refl
-word_type words.Private = refl
-word_type words.Virtual = refl
-word_type words.Override = refl
-word_type words.If = refl
-word_type words.Else = refl
-word_type words.While = refl
-word_type words.Do = refl
-word_type words.For = refl
-word_type words.Switch = refl
-word_type words.Case = refl
-word_type words.Default = refl
-word_type words.Break = refl
-word_type words.Continue = refl
-word_type words.Return = refl
-word_type words.Delete = refl
-word_type words.New = refl
-word_type words.DynamicCast = refl
-word_type words.Float = refl
-word_type words.Union = refl
-word_type words.Sizeof = refl
-word_type words.Operator = refl
-word_type words.Namespace = refl
+word_type w = not_so (same (class_of_word w) class.TypeName) (at_place 1 (word_facts [] w) (words_checked [] w))
 
 -- a word stays one behind `.`
 dot_keeps : (x : Context) (c : Class) → same c class.TypeName ≡ false → behind_dot x.spot c ≡ c
@@ -251,53 +309,7 @@ name_low x name = inside (class_number (name_class (x.roles name) x.spot name)) 
 
 -- no sign has the class of a name or of a value
 sign_not : (s : Sign) → listed (class_number (sign_class s)) low ≡ true → listed (class_number (sign_class s)) (70 ∷ []) ≡ true
-unfolding sign_class class_number
-sign_not signs.ParenthesisOpen h = false_true h
-sign_not signs.ParenthesisClose h = false_true h
-sign_not signs.BracketOpen h = false_true h
-sign_not signs.BracketClose h = false_true h
-sign_not signs.BraceOpen h = false_true h
-sign_not signs.BraceClose h = false_true h
-sign_not signs.Semicolon h = false_true h
-sign_not signs.Comma h = false_true h
-sign_not signs.Dot h = false_true h
-sign_not signs.Colon h = false_true h
-sign_not signs.DoubleColon h = false_true h
-sign_not signs.Question h = false_true h
-sign_not signs.Tilde h = false_true h
-sign_not signs.Not h = false_true h
-sign_not signs.Plus h = false_true h
-sign_not signs.Minus h = false_true h
-sign_not signs.Star h = false_true h
-sign_not signs.Slash h = false_true h
-sign_not signs.Percent h = false_true h
-sign_not signs.ShiftLeft h = false_true h
-sign_not signs.ShiftRight h = false_true h
-sign_not signs.Less h = false_true h
-sign_not signs.LessOrEqual h = false_true h
-sign_not signs.Greater h = false_true h
-sign_not signs.GreaterOrEqual h = false_true h
-sign_not signs.Equal h = false_true h
-sign_not signs.NotEqual h = false_true h
-sign_not signs.Ampersand h = false_true h
-sign_not signs.Caret h = false_true h
-sign_not signs.Bar h = false_true h
-sign_not signs.And h = false_true h
-sign_not signs.Or h = false_true h
-sign_not signs.Assign h = false_true h
-sign_not signs.PlusAssign h = false_true h
-sign_not signs.MinusAssign h = false_true h
-sign_not signs.StarAssign h = false_true h
-sign_not signs.SlashAssign h = false_true h
-sign_not signs.PercentAssign h = false_true h
-sign_not signs.ShiftLeftAssign h = false_true h
-sign_not signs.ShiftRightAssign h = false_true h
-sign_not signs.AmpersandAssign h = false_true h
-sign_not signs.CaretAssign h = false_true h
-sign_not signs.BarAssign h = false_true h
-sign_not signs.Increment h = false_true h
-sign_not signs.Decrement h = false_true h
-sign_not signs.Hash h = refl
+sign_not s = implied (listed (class_number (sign_class s)) low) (listed (class_number (sign_class s)) (70 ∷ [])) (at_place 0 (sign_facts s) (signs_checked s))
 
 -- a token of a name's class is a name
 pub name_was : (x : Context) (t : Token) (rest : List (Token × Span)) → listed (class_number (token_class x t rest)) (0 ∷ 1 ∷ 2 ∷ 3 ∷ []) ≡ true → Is (name_of t)
@@ -314,58 +326,7 @@ name_was x (token.IncludeName name place) rest h = false_true h
 name_was x token.LineEnd rest h = false_true h
 
 word_was : (name : List ℕ) (w : ReservedWord) → listed (class_number (class_of_word w)) values ≡ true → Is (word_value name (Some w))
-unfolding class_of_word class_number word_value
-word_was name words.Bool h = false_true h
-word_was name words.Char h = false_true h
-word_was name words.Uchar h = false_true h
-word_was name words.Short h = false_true h
-word_was name words.Ushort h = false_true h
-word_was name words.Int h = false_true h
-word_was name words.Uint h = false_true h
-word_was name words.Long h = false_true h
-word_was name words.Ulong h = false_true h
-word_was name words.Datetime h = false_true h
-word_was name words.Color h = false_true h
-word_was name words.Double h = false_true h
-word_was name words.String h = false_true h
-word_was name words.Void h = false_true h
-word_was name words.True h = tt
-word_was name words.False h = tt
-word_was name words.Null h = tt
-word_was name words.This h = tt
-word_was name words.Input h = false_true h
-word_was name words.StaticInput h = false_true h
-word_was name words.Static h = false_true h
-word_was name words.Const h = false_true h
-word_was name words.Template h = false_true h
-word_was name words.Enum h = false_true h
-word_was name words.Class h = false_true h
-word_was name words.Struct h = false_true h
-word_was name words.Interface h = false_true h
-word_was name words.Public h = false_true h
-word_was name words.Protected h = false_true h
-word_was name words.Private h = false_true h
-word_was name words.Virtual h = false_true h
-word_was name words.Override h = false_true h
-word_was name words.If h = false_true h
-word_was name words.Else h = false_true h
-word_was name words.While h = false_true h
-word_was name words.Do h = false_true h
-word_was name words.For h = false_true h
-word_was name words.Switch h = false_true h
-word_was name words.Case h = false_true h
-word_was name words.Default h = false_true h
-word_was name words.Break h = false_true h
-word_was name words.Continue h = false_true h
-word_was name words.Return h = false_true h
-word_was name words.Delete h = false_true h
-word_was name words.New h = false_true h
-word_was name words.DynamicCast h = false_true h
-word_was name words.Float h = false_true h
-word_was name words.Union h = false_true h
-word_was name words.Sizeof h = false_true h
-word_was name words.Operator h = false_true h
-word_was name words.Namespace h = false_true h
+word_was name w h = some_is (word_value name (Some w)) (implied (listed (class_number (class_of_word w)) values) (is_some (word_value name (Some w))) (at_place 2 (word_facts name w) (words_checked name w)) h)
 
 value_word : (x : Context) (name : List ℕ) (o : Option ReservedWord) → listed (class_number (behind_dot x.spot (unwrap_or (class_of_name name o) (plain_name_class (x.roles name) x.spot name)))) values ≡ true → Is (word_value name o)
 unfolding word_value
@@ -398,213 +359,18 @@ sign_was x (token.IncludeName name place) rest cs o l h = apart_both 70 low cs l
 sign_was x token.LineEnd rest cs o l h = apart_both 70 low cs l refl h
 
 -- operators
-abbrev pub unarys : List ℕ
-unarys = 47 ∷ 48 ∷ 49 ∷ 50 ∷ 60 ∷ 68 ∷ []
 
 pub unary_was : (s : Sign) → listed (class_number (sign_class s)) unarys ≡ true → Is (unary_of s)
-unfolding sign_class class_number unary_of
-unary_was signs.ParenthesisOpen h = false_true h
-unary_was signs.ParenthesisClose h = false_true h
-unary_was signs.BracketOpen h = false_true h
-unary_was signs.BracketClose h = false_true h
-unary_was signs.BraceOpen h = false_true h
-unary_was signs.BraceClose h = false_true h
-unary_was signs.Semicolon h = false_true h
-unary_was signs.Comma h = false_true h
-unary_was signs.Dot h = false_true h
-unary_was signs.Colon h = false_true h
-unary_was signs.DoubleColon h = false_true h
-unary_was signs.Question h = false_true h
-unary_was signs.Tilde h = tt
-unary_was signs.Not h = tt
-unary_was signs.Plus h = tt
-unary_was signs.Minus h = tt
-unary_was signs.Star h = tt
-unary_was signs.Slash h = false_true h
-unary_was signs.Percent h = false_true h
-unary_was signs.ShiftLeft h = false_true h
-unary_was signs.ShiftRight h = false_true h
-unary_was signs.Less h = false_true h
-unary_was signs.LessOrEqual h = false_true h
-unary_was signs.Greater h = false_true h
-unary_was signs.GreaterOrEqual h = false_true h
-unary_was signs.Equal h = false_true h
-unary_was signs.NotEqual h = false_true h
-unary_was signs.Ampersand h = tt
-unary_was signs.Caret h = false_true h
-unary_was signs.Bar h = false_true h
-unary_was signs.And h = false_true h
-unary_was signs.Or h = false_true h
-unary_was signs.Assign h = false_true h
-unary_was signs.PlusAssign h = false_true h
-unary_was signs.MinusAssign h = false_true h
-unary_was signs.StarAssign h = false_true h
-unary_was signs.SlashAssign h = false_true h
-unary_was signs.PercentAssign h = false_true h
-unary_was signs.ShiftLeftAssign h = false_true h
-unary_was signs.ShiftRightAssign h = false_true h
-unary_was signs.AmpersandAssign h = false_true h
-unary_was signs.CaretAssign h = false_true h
-unary_was signs.BarAssign h = false_true h
-unary_was signs.Increment h = tt
-unary_was signs.Decrement h = tt
-unary_was signs.Hash h = false_true h
-
-abbrev pub binarys : List ℕ
-binarys = 49 ∷ 50 ∷ 52 ∷ 53 ∷ 54 ∷ 57 ∷ 58 ∷ 59 ∷ 60 ∷ 62 ∷ 63 ∷ 64 ∷ 65 ∷ []
+unary_was s h = some_is (unary_of s) (implied (listed (class_number (sign_class s)) unarys) (is_some (unary_of s)) (at_place 1 (sign_facts s) (signs_checked s)) h)
 
 pub binary_was : (s : Sign) → listed (class_number (sign_class s)) binarys ≡ true → Is (binary_of s)
-unfolding sign_class class_number binary_of
-binary_was signs.ParenthesisOpen h = false_true h
-binary_was signs.ParenthesisClose h = false_true h
-binary_was signs.BracketOpen h = false_true h
-binary_was signs.BracketClose h = false_true h
-binary_was signs.BraceOpen h = false_true h
-binary_was signs.BraceClose h = false_true h
-binary_was signs.Semicolon h = false_true h
-binary_was signs.Comma h = false_true h
-binary_was signs.Dot h = false_true h
-binary_was signs.Colon h = false_true h
-binary_was signs.DoubleColon h = false_true h
-binary_was signs.Question h = false_true h
-binary_was signs.Tilde h = false_true h
-binary_was signs.Not h = false_true h
-binary_was signs.Plus h = tt
-binary_was signs.Minus h = tt
-binary_was signs.Star h = tt
-binary_was signs.Slash h = tt
-binary_was signs.Percent h = tt
-binary_was signs.ShiftLeft h = tt
-binary_was signs.ShiftRight h = tt
-binary_was signs.Less h = tt
-binary_was signs.LessOrEqual h = tt
-binary_was signs.Greater h = tt
-binary_was signs.GreaterOrEqual h = tt
-binary_was signs.Equal h = tt
-binary_was signs.NotEqual h = tt
-binary_was signs.Ampersand h = tt
-binary_was signs.Caret h = tt
-binary_was signs.Bar h = tt
-binary_was signs.And h = tt
-binary_was signs.Or h = tt
-binary_was signs.Assign h = false_true h
-binary_was signs.PlusAssign h = false_true h
-binary_was signs.MinusAssign h = false_true h
-binary_was signs.StarAssign h = false_true h
-binary_was signs.SlashAssign h = false_true h
-binary_was signs.PercentAssign h = false_true h
-binary_was signs.ShiftLeftAssign h = false_true h
-binary_was signs.ShiftRightAssign h = false_true h
-binary_was signs.AmpersandAssign h = false_true h
-binary_was signs.CaretAssign h = false_true h
-binary_was signs.BarAssign h = false_true h
-binary_was signs.Increment h = false_true h
-binary_was signs.Decrement h = false_true h
-binary_was signs.Hash h = false_true h
-
-abbrev pub assignments : List ℕ
-assignments = 66 ∷ 67 ∷ []
+binary_was s h = some_is (binary_of s) (implied (listed (class_number (sign_class s)) binarys) (is_some (binary_of s)) (at_place 2 (sign_facts s) (signs_checked s)) h)
 
 pub assignment_was : (s : Sign) → listed (class_number (sign_class s)) assignments ≡ true → Is (assignment_of s)
-unfolding sign_class class_number assignment_of
-assignment_was signs.ParenthesisOpen h = false_true h
-assignment_was signs.ParenthesisClose h = false_true h
-assignment_was signs.BracketOpen h = false_true h
-assignment_was signs.BracketClose h = false_true h
-assignment_was signs.BraceOpen h = false_true h
-assignment_was signs.BraceClose h = false_true h
-assignment_was signs.Semicolon h = false_true h
-assignment_was signs.Comma h = false_true h
-assignment_was signs.Dot h = false_true h
-assignment_was signs.Colon h = false_true h
-assignment_was signs.DoubleColon h = false_true h
-assignment_was signs.Question h = false_true h
-assignment_was signs.Tilde h = false_true h
-assignment_was signs.Not h = false_true h
-assignment_was signs.Plus h = false_true h
-assignment_was signs.Minus h = false_true h
-assignment_was signs.Star h = false_true h
-assignment_was signs.Slash h = false_true h
-assignment_was signs.Percent h = false_true h
-assignment_was signs.ShiftLeft h = false_true h
-assignment_was signs.ShiftRight h = false_true h
-assignment_was signs.Less h = false_true h
-assignment_was signs.LessOrEqual h = false_true h
-assignment_was signs.Greater h = false_true h
-assignment_was signs.GreaterOrEqual h = false_true h
-assignment_was signs.Equal h = false_true h
-assignment_was signs.NotEqual h = false_true h
-assignment_was signs.Ampersand h = false_true h
-assignment_was signs.Caret h = false_true h
-assignment_was signs.Bar h = false_true h
-assignment_was signs.And h = false_true h
-assignment_was signs.Or h = false_true h
-assignment_was signs.Assign h = tt
-assignment_was signs.PlusAssign h = tt
-assignment_was signs.MinusAssign h = tt
-assignment_was signs.StarAssign h = tt
-assignment_was signs.SlashAssign h = tt
-assignment_was signs.PercentAssign h = tt
-assignment_was signs.ShiftLeftAssign h = tt
-assignment_was signs.ShiftRightAssign h = tt
-assignment_was signs.AmpersandAssign h = tt
-assignment_was signs.CaretAssign h = tt
-assignment_was signs.BarAssign h = tt
-assignment_was signs.Increment h = false_true h
-assignment_was signs.Decrement h = false_true h
-assignment_was signs.Hash h = false_true h
-
-abbrev pub steps : List ℕ
-steps = 68 ∷ []
+assignment_was s h = some_is (assignment_of s) (implied (listed (class_number (sign_class s)) assignments) (is_some (assignment_of s)) (at_place 3 (sign_facts s) (signs_checked s)) h)
 
 pub step_was : (s : Sign) → listed (class_number (sign_class s)) steps ≡ true → Is (step_of s)
-unfolding sign_class class_number step_of
-step_was signs.ParenthesisOpen h = false_true h
-step_was signs.ParenthesisClose h = false_true h
-step_was signs.BracketOpen h = false_true h
-step_was signs.BracketClose h = false_true h
-step_was signs.BraceOpen h = false_true h
-step_was signs.BraceClose h = false_true h
-step_was signs.Semicolon h = false_true h
-step_was signs.Comma h = false_true h
-step_was signs.Dot h = false_true h
-step_was signs.Colon h = false_true h
-step_was signs.DoubleColon h = false_true h
-step_was signs.Question h = false_true h
-step_was signs.Tilde h = false_true h
-step_was signs.Not h = false_true h
-step_was signs.Plus h = false_true h
-step_was signs.Minus h = false_true h
-step_was signs.Star h = false_true h
-step_was signs.Slash h = false_true h
-step_was signs.Percent h = false_true h
-step_was signs.ShiftLeft h = false_true h
-step_was signs.ShiftRight h = false_true h
-step_was signs.Less h = false_true h
-step_was signs.LessOrEqual h = false_true h
-step_was signs.Greater h = false_true h
-step_was signs.GreaterOrEqual h = false_true h
-step_was signs.Equal h = false_true h
-step_was signs.NotEqual h = false_true h
-step_was signs.Ampersand h = false_true h
-step_was signs.Caret h = false_true h
-step_was signs.Bar h = false_true h
-step_was signs.And h = false_true h
-step_was signs.Or h = false_true h
-step_was signs.Assign h = false_true h
-step_was signs.PlusAssign h = false_true h
-step_was signs.MinusAssign h = false_true h
-step_was signs.StarAssign h = false_true h
-step_was signs.SlashAssign h = false_true h
-step_was signs.PercentAssign h = false_true h
-step_was signs.ShiftLeftAssign h = false_true h
-step_was signs.ShiftRightAssign h = false_true h
-step_was signs.AmpersandAssign h = false_true h
-step_was signs.CaretAssign h = false_true h
-step_was signs.BarAssign h = false_true h
-step_was signs.Increment h = tt
-step_was signs.Decrement h = tt
-step_was signs.Hash h = false_true h
+step_was s h = some_is (step_of s) (implied (listed (class_number (sign_class s)) steps) (is_some (step_of s)) (at_place 4 (sign_facts s) (signs_checked s)) h)
 
 -- a token of a word's class is that word
 plain_only : (x : Context) (name : List ℕ) → listed (class_number (plain_name_class (x.roles name) x.spot name)) (0 ∷ 1 ∷ 7 ∷ 14 ∷ []) ≡ true
@@ -648,112 +414,10 @@ word_there x token.LineEnd rest cs d e f o l h = apart_both 70 cs (70 ∷ []) f 
 
 -- the kinds of classes, and who may reach members
 pub kind_was : (w : ReservedWord) → listed (class_number (class_of_word w)) (16 ∷ []) ≡ true → Is (kind_of w)
-unfolding class_of_word class_number kind_of
-kind_was words.Bool h = false_true h
-kind_was words.Char h = false_true h
-kind_was words.Uchar h = false_true h
-kind_was words.Short h = false_true h
-kind_was words.Ushort h = false_true h
-kind_was words.Int h = false_true h
-kind_was words.Uint h = false_true h
-kind_was words.Long h = false_true h
-kind_was words.Ulong h = false_true h
-kind_was words.Datetime h = false_true h
-kind_was words.Color h = false_true h
-kind_was words.Double h = false_true h
-kind_was words.String h = false_true h
-kind_was words.Void h = false_true h
-kind_was words.True h = false_true h
-kind_was words.False h = false_true h
-kind_was words.Null h = false_true h
-kind_was words.This h = false_true h
-kind_was words.Input h = false_true h
-kind_was words.StaticInput h = false_true h
-kind_was words.Static h = false_true h
-kind_was words.Const h = false_true h
-kind_was words.Template h = false_true h
-kind_was words.Enum h = false_true h
-kind_was words.Class h = tt
-kind_was words.Struct h = tt
-kind_was words.Interface h = tt
-kind_was words.Public h = false_true h
-kind_was words.Protected h = false_true h
-kind_was words.Private h = false_true h
-kind_was words.Virtual h = false_true h
-kind_was words.Override h = false_true h
-kind_was words.If h = false_true h
-kind_was words.Else h = false_true h
-kind_was words.While h = false_true h
-kind_was words.Do h = false_true h
-kind_was words.For h = false_true h
-kind_was words.Switch h = false_true h
-kind_was words.Case h = false_true h
-kind_was words.Default h = false_true h
-kind_was words.Break h = false_true h
-kind_was words.Continue h = false_true h
-kind_was words.Return h = false_true h
-kind_was words.Delete h = false_true h
-kind_was words.New h = false_true h
-kind_was words.DynamicCast h = false_true h
-kind_was words.Float h = false_true h
-kind_was words.Union h = false_true h
-kind_was words.Sizeof h = false_true h
-kind_was words.Operator h = false_true h
-kind_was words.Namespace h = false_true h
+kind_was w h = some_is (kind_of w) (implied (listed (class_number (class_of_word w)) (16 ∷ [])) (is_some (kind_of w)) (at_place 3 (word_facts [] w) (words_checked [] w)) h)
 
 pub access_was : (w : ReservedWord) → listed (class_number (class_of_word w)) (17 ∷ []) ≡ true → Is (access_of w)
-unfolding class_of_word class_number access_of
-access_was words.Bool h = false_true h
-access_was words.Char h = false_true h
-access_was words.Uchar h = false_true h
-access_was words.Short h = false_true h
-access_was words.Ushort h = false_true h
-access_was words.Int h = false_true h
-access_was words.Uint h = false_true h
-access_was words.Long h = false_true h
-access_was words.Ulong h = false_true h
-access_was words.Datetime h = false_true h
-access_was words.Color h = false_true h
-access_was words.Double h = false_true h
-access_was words.String h = false_true h
-access_was words.Void h = false_true h
-access_was words.True h = false_true h
-access_was words.False h = false_true h
-access_was words.Null h = false_true h
-access_was words.This h = false_true h
-access_was words.Input h = false_true h
-access_was words.StaticInput h = false_true h
-access_was words.Static h = false_true h
-access_was words.Const h = false_true h
-access_was words.Template h = false_true h
-access_was words.Enum h = false_true h
-access_was words.Class h = false_true h
-access_was words.Struct h = false_true h
-access_was words.Interface h = false_true h
-access_was words.Public h = tt
-access_was words.Protected h = tt
-access_was words.Private h = tt
-access_was words.Virtual h = false_true h
-access_was words.Override h = false_true h
-access_was words.If h = false_true h
-access_was words.Else h = false_true h
-access_was words.While h = false_true h
-access_was words.Do h = false_true h
-access_was words.For h = false_true h
-access_was words.Switch h = false_true h
-access_was words.Case h = false_true h
-access_was words.Default h = false_true h
-access_was words.Break h = false_true h
-access_was words.Continue h = false_true h
-access_was words.Return h = false_true h
-access_was words.Delete h = false_true h
-access_was words.New h = false_true h
-access_was words.DynamicCast h = false_true h
-access_was words.Float h = false_true h
-access_was words.Union h = false_true h
-access_was words.Sizeof h = false_true h
-access_was words.Operator h = false_true h
-access_was words.Namespace h = false_true h
+access_was w h = some_is (access_of w) (implied (listed (class_number (class_of_word w)) (17 ∷ [])) (is_some (access_of w)) (at_place 4 (word_facts [] w) (words_checked [] w)) h)
 
 -- a token of a string's class is one
 pub text_was : (x : Context) (t : Token) (rest : List (Token × Span)) → listed (class_number (token_class x t rest)) (6 ∷ []) ≡ true → Is (text_of t)

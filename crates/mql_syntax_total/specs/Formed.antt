@@ -18,10 +18,11 @@ abbrev pub Every : {A : Type 0} → (A → Type 0) → List A → Type 0
 Every G [] = Unit {0}
 Every G (x ∷ xs) = G x × Every G xs
 
--- A part of a tree over tokens: what its node sees of it is what it is, and each node in it has the parts that
--- its form has. Nodes go in one another less deep than the number says.
+-- a part of a tree over tokens, in which nodes go in one another less deep than the number says
 pub record IsFormed (tokens : List (Token × Span)) (n : ℕ) (p : Part) : Type 0 where
+  -- it is what its node sees of its tree
   pub seen : p.head ≡ head_in (classes_of tokens) p.tree
+  -- each node in it has its parts by the grammar (`Formed` of the grammar), and it lacks no later ones itself
   pub formed : Formed (over (classes_of tokens)) (spine_of p.tree)
   pub whole : IsWhole (over (classes_of tokens)) (spine_of p.tree)
   pub deep : depth (spine_of p.tree) < n
@@ -44,12 +45,15 @@ is_type p = is (class.Name ∷ type_words) type_forms p
 
 -- where a statement stands
 abbrev pub statement_forms : List Form
-statement_forms = form.Block ∷ form.Empty ∷ form.Simple ∷ form.If ∷ form.While ∷ form.Do ∷ form.For ∷ form.Switch
-    ∷ form.Break ∷ form.Continue ∷ form.Return ∷ form.Delete ∷ []
+statement_forms = form.Block ∷ form.Empty ∷ form.Simple ∷ form.If ∷ form.While ∷ form.Do ∷ form.For
+    ∷ form.Switch ∷ form.Break ∷ form.Continue ∷ form.Return ∷ form.Delete ∷ []
 
 abbrev pub is_statement : Part → Bool
 is_statement p = is [] statement_forms p
 
 -- a part of a program: an item, or `;` alone
+abbrev pub item_forms : List Form
+item_forms = form.Item ∷ form.Template ∷ form.Enumeration ∷ form.Class ∷ []
+
 abbrev pub is_item : Part → Bool
-is_item p = is (class.Semicolon ∷ []) (form.Item ∷ form.Template ∷ form.Enumeration ∷ form.Class ∷ []) p
+is_item p = is (class.Semicolon ∷ []) item_forms p
