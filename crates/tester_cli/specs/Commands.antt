@@ -19,6 +19,7 @@ use Rattle.mql_level.specs.Level.{program}
 use Rattle.mql_preproc.specs.declared.source.Source.{Source}
 use Rattle.tester_sources.specs.Reading.{Tokens, program_plan}
 use Rattle.tester_sources.specs.Judging.{tree_plan, with_program}
+use Rattle.tester_sources.specs.Declarations.{with_declarations, declarations_refused}
 use Rattle.tester_market.specs.Reading.{price_limit}
 use Rattle.tester_market.specs.Quotes.{quotes_plan}
 use Rattle.tester_cli.specs.Pass.{Passes}
@@ -63,11 +64,12 @@ abbrev pub says : List ℕ → Ending
 says words held status text after = (status ≡ Done) × (text ≡ words) × (after ≡ held)
 
 -- `check SOURCE`: the stages that are built so far find no fault
-abbrev pub check_tree : List Source → Tokens → Tree → Plan
-check_tree sources tokens tree = Ends (says (codes "ok" ++ 10 ∷ []))
+abbrev pub check_tree : List ℕ → List Source → Tokens → Tree → Plan
+check_tree entry sources tokens tree =
+    with_declarations entry sources tokens (Ends (says (codes "ok" ++ 10 ∷ []))) (declarations_refused tokens tree)
 
 abbrev pub check_plan : List ℕ → Plan
-check_plan entry = program_plan entry (tree_plan entry check_tree)
+check_plan entry = program_plan entry (tree_plan entry (check_tree entry))
 
 -- the command of a word
 unfoldable pub command_of : List ℕ → Option Command

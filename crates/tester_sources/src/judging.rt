@@ -18,7 +18,7 @@ use std::alloc::Global;
 use tester_answer::{SourceFault, Status};
 
 // The place of a token, if it is there.
-fn span_at(tokens: &Tokens, place: u64) -> Option<Span>
+pub(crate) fn span_at(tokens: &Tokens, place: u64) -> Option<Span>
     ensures { result ≡ span_at tokens.now place }
 {
     match tokens.at(place) {
@@ -55,7 +55,7 @@ fn span_among(tokens: &Tokens, place: Option<u32>) -> Option<Span>
 }
 
 // The status of a rule of a stage that is broken at a place, else at line 1 of the entry.
-fn placed(
+pub(crate) fn placed(
     alloc: Global,
     entry: &Text8,
     sources: &Sources,
