@@ -146,11 +146,13 @@ fn is_enough(ledger: &Ledger, prices: &Prices, left: &[Position], events: &[Even
 {
     let spec = ledger.spec();
     let margin = margin_by(spec, left);
-    if !exceeds(margin, ledger.margin()) {
+    let before = ledger.margin();
+    if !exceeds(margin, before) {
         return true;
     }
     let balance = balance_with(ledger.balance(), events);
-    !exceeds(margin, equity_of(&spec.specs, prices, balance, left))
+    let equity = equity_of(&spec.specs, prices, balance, left);
+    !exceeds(margin, equity)
 }
 
 /// The volume and the price of a fill are doubles.
