@@ -1,5 +1,5 @@
 -- What the calls of the worked examples ask.
-use Rattle.std.proofs.Common.{◌≡◌, ◌≤ℤ◌, ℕ, List, [], ◌∷◌, Bool, true, ℤ, pos, length, refl, arith, lit<, set, FitsSigned}
+use Rattle.std.proofs.Common.{◌≡◌, ◌≤ℤ◌, ◌<ℤ◌, ℕ, List, [], ◌∷◌, Bool, true, ℤ, pos, length, refl, arith, lit<, set, FitsSigned}
 use Rattle.std.specs.Int.{w128}
 use Rattle.std.proofs.lemmas.Int.{ints, fits_signed_from_abs}
 use Rattle.std.proofs.lemmas.List.Elements.{All-cons, All-nil}
@@ -7,11 +7,15 @@ use Rattle.fx8.specs.Rounding.{rounded}
 use Rattle.market_types.specs.Ranges.{IsSymbolName, IsNameCharacter, IsSpec}
 use Rattle.account.specs.Deals.{net}
 use Rattle.account.specs.Money.{profit, margin}
-use Rattle.account.specs.Positions.{opened}
+use Rattle.account.specs.Positions.{opened, open_positions}
 use Rattle.account.specs.Statistics.{gain, loss, greater}
-use Rattle.account.specs.StopOut.{floating, position_margin, equity}
+use Rattle.account.specs.StopOut.{PriceList, floating, position_margin, equity}
 use Rattle.account.specs.Ranges.{IsAccount, HasPrices}
-use Rattle.account_tests.specs.Worked.{symbol, account, started, MayAdd, MayTell, at_bid, buy, close, begun, bought, closed, long, short, one_side}
+use Rattle.account_tests.specs.Worked.{symbol, account, started, MayAdd, MayTell, at_bid, buy, close, begun, bought, closed, long, short, one_side, fill}
+use Rattle.account.specs.Journal.{Journal}
+use Rattle.positions.specs.declared.fill.Fill.{Fill}
+use Rattle.positions.specs.Fills.{IsFill}
+use Rattle.positions.specs.Money.{IsRoomy, HasRoom}
 
 one_letter : IsSymbolName (83 ∷ [])
 one_letter = record {
@@ -143,3 +147,19 @@ may_short = record {
     balance_dd = fits_signed_from_abs w128 _ (lit< tt);
   };
 }
+
+-- the account with a bought position has room for one more deal
+roomy : IsRoomy (at_bid (pos 118600000)) (opened buy)
+roomy = record { priced = refl; volume = omega (arith, ints); swap = omega (arith, ints) }
+
+pub bought_room : (j : Journal) (prices : PriceList) → j ≡ bought → prices ≡ at_bid (pos 118600000) → HasRoom j.spec prices j.events
+unfolding net
+bought_room j prices e p = rw e (rw p (record {
+  symbols = omega arith;
+  positions = All-cons (IsRoomy (at_bid (pos 118600000))) (opened buy) [] roomy (All-nil (IsRoomy (at_bid (pos 118600000))));
+  balance = omega (arith, ints);
+}))
+
+-- and a fill of an order of its own may be asked about
+pub bought_fill : (j : Journal) (f : Fill) (buys : Bool) (volume price : ℤ) → j ≡ bought → f ≡ fill buys volume price → pos 0 <ℤ volume → IsFill j.spec.hedging j.spec.specs (open_positions j.events) f
+bought_fill j f buys volume price e g s = rw e (rw g (record { symbol = omega arith; some = s; order = λ n. omega arith; fresh = λ n. refl }))

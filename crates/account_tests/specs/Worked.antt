@@ -12,6 +12,7 @@ use Rattle.account.specs.declared.event.Event.TheVariants as event
 use Rattle.account.specs.Journal.{Journal, deposit_deal}
 use Rattle.account.specs.Positions.{open_positions}
 use Rattle.account.specs.StopOut.{PriceList}
+use Rattle.positions.specs.declared.fill.Fill.{Fill}
 use Rattle.account.specs.Ranges.{IsEventOf, IsPriced, IsWithin, KeepsTypes}
 
 -- a symbol of 100,000 units a lot
@@ -98,6 +99,24 @@ bought = with_deal begun buy
 
 abbrev pub closed : Journal
 closed = with_deal bought close
+
+-- a fill of an order of its own
+abbrev pub fill : Bool → ℤ → ℤ → Fill
+fill buy volume price = record {
+  order = 3;
+  position = 0;
+  deal = 3;
+  time_ms = pos 0;
+  symbol = 0;
+  buy = buy;
+  volume = volume;
+  price = price;
+  sl = pos 0;
+  tp = pos 0;
+  magic = 0;
+  reason = reason.Expert;
+  comment = [];
+}
 
 -- 1.0 lot bought at 1.1000 and 0.4 sold at 1.1010, under hedging
 abbrev pub long : Deal

@@ -1,6 +1,6 @@
 //! Worked accounts: their deals, their equity and margin, and when stop-out closes a position.
-ghost use Rattle.std.specs.Prelude.{◌≡◌, ◌∷◌, [], IfOk, OnOk, pos, neg_ℤ};
-ghost use Rattle.account_tests.specs.Worked.{symbol, account, deal, started, with_deal, MayAdd, MayTell, at_bid, bought, closed, one_side};
+ghost use Rattle.std.specs.Prelude.{◌≡◌, ◌∷◌, [], IfOk, OnOk, pos, neg_ℤ, ◌^◌, ◌<ℤ◌, ◌≤ℤ◌};
+ghost use Rattle.account_tests.specs.Worked.{symbol, account, deal, started, with_deal, MayAdd, MayTell, at_bid, bought, closed, one_side, fill};
 ghost use Rattle.account.specs.Ranges.{IsAccount};
 
 use account::{
@@ -9,6 +9,7 @@ use account::{
 };
 use fx8::{Fix8, Money, OutOfMemory, Text, Text8};
 use market_types::{Specs, SymbolSpec};
+use positions::{Fill, has_money};
 use std::alloc::{AllocError, Global};
 use std::test::Fail;
 
@@ -170,6 +171,49 @@ fn a_closed_position_is_paid(rt: HostRuntime) -> Result<(), Fail> {
 fn hedged_margin_is_of_the_greater_side(rt: HostRuntime) -> Result<(), Fail> {
     let ledger = both_sides(rt.alloc())?;
     assert_eq!(rt; ledger.margin().cents(), 110_000);
+    Ok(())
+}
+
+/// A fill of an order of its own: volume and price in units of 10^-8.
+fn fill(alloc: Global, buy: bool, volume: i64, price: i64) -> Fill
+    ensures { result ≡ fill buy volume price }
+{
+    Fill {
+        order: 3,
+        position: 0,
+        deal: 3,
+        time_ms: 0,
+        symbol: 0,
+        buy,
+        volume: Fix8::of_units(volume),
+        price: Fix8::of_units(price),
+        sl: Fix8::of_units(0),
+        tp: Fix8::of_units(0),
+        magic: 0,
+        reason: DealReason::Expert,
+        comment: Text::new(alloc),
+    }
+}
+
+/// Whether there is money at 1.186 for so much, with 0.5 lots bought at 1.2 that bind 600.00 at an equity of 300.00.
+#[tactic(auto, using(crate::proofs::Shown::bought_room, crate::proofs::Shown::bought_fill))]
+fn enough(alloc: Global, buy: bool, volume: i64) -> Result<bool, LedgerFault>
+    requires some { pos 0 <ℤ volume }
+    requires most { volume ≤ℤ pos (2 ^ 61) }
+{
+    let ledger = bought(alloc)?;
+    let prices = prices_at(alloc, 118_600_000)?;
+    let fill = fill(alloc, buy, volume, 118_600_000);
+    Ok(has_money(alloc, &ledger, &prices, &fill)?)
+}
+
+#[test]
+fn money_counts_what_a_deal_leaves(rt: HostRuntime) -> Result<(), Fail> {
+    let alloc = rt.alloc();
+    assert!(rt; enough(alloc, false, 30_000_000)?);
+    assert!(rt; enough(alloc, false, 100_000_000)?);
+    assert!(rt; !enough(alloc, false, 110_000_000)?);
+    assert!(rt; !enough(alloc, true, 1_000_000)?);
     Ok(())
 }
 

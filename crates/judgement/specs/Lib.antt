@@ -3,3 +3,4 @@ pub mod Judge
 pub mod Numbers
 pub mod Rules
 pub mod Tables
+pub mod Accept

@@ -1,6 +1,7 @@
 //! The codes of worked requests: one refused request for each rule of each action.
 ghost use Rattle.std.specs.Prelude.{◌≡◌, ◌≤◌, IfOk, All, length, pos, ◌<ℤ◌};
 ghost use Rattle.market_types.specs.Ranges.{IsSpec};
+ghost use Rattle.account.specs.Ranges.{IsAccount};
 
 use account::{AccountSpec, DealReason, EventList, Order, OrderKind, OrderTime, Prices};
 use fx8::{Fix8, ItemList, Money, OutOfMemory, Text, Text8};
@@ -12,16 +13,16 @@ use std::alloc::Global;
 use std::test::Fail;
 
 /// 2020.01.02 10:00, in seconds.
-const NOW: i64 = 1_577_959_200;
+pub(crate) const NOW: i64 = 1_577_959_200;
 
 /// The symbol of the tests, and one that there is not.
-const EURUSD: &[u16] = &[69, 85, 82, 85, 83, 68];
+pub(crate) const EURUSD: &[u16] = &[69, 85, 82, 85, 83, 68];
 
 const GBPUSD: &[u16] = &[71, 66, 80, 85, 83, 68];
 
 /// A request: action, type of the order, filling; volume in thousandths; price, stop-limit price, stop loss
 /// and take profit in ten-thousandths; type of time and expiration; order, position and opposite position.
-type Asked = (
+pub(crate) type Asked = (
     (u32, u32, u32),
     i32,
     (i32, i32, i32, i32),
@@ -40,7 +41,7 @@ fn volume(thousandths: i32) -> Fix8 {
     Fix8::of_units(thousandths as i64 * 100_000)
 }
 
-fn request_of(alloc: Global, name: &[u16], asked: &Asked) -> Result<Request, OutOfMemory> {
+pub(crate) fn request_of(alloc: Global, name: &[u16], asked: &Asked) -> Result<Request, OutOfMemory> {
     let ((action, kind, filling), lots, (at, stoplimit, sl, tp), (type_time, expiration), tickets) =
         *asked;
     Ok(Request {
@@ -75,7 +76,7 @@ fn symbol(alloc: Global) -> Result<SymbolSpec, OutOfMemory>
 }
 
 /// A list of one symbol.
-fn specs(alloc: Global) -> Result<Specs, OutOfMemory>
+pub(crate) fn specs(alloc: Global) -> Result<Specs, OutOfMemory>
     ensures specs { IfOk result (All IsSpec) }
     ensures one { IfOk result (λ list. length list ≡ 1) }
 {
@@ -85,9 +86,11 @@ fn specs(alloc: Global) -> Result<Specs, OutOfMemory>
 }
 
 /// An account of 1,000.00 at a leverage of 100.
-fn account(alloc: Global, hedging: bool) -> Result<AccountSpec, OutOfMemory>
+pub(crate) fn account(alloc: Global, hedging: bool) -> Result<AccountSpec, OutOfMemory>
     ensures specs { IfOk result (λ spec. All IsSpec spec.specs) }
     ensures one { IfOk result (λ spec. length spec.specs ≡ 1) }
+    ensures account { IfOk result IsAccount }
+    ensures deposit { IfOk result (λ spec. spec.deposit ≡ pos 100000) }
     ensures kind { IfOk result (λ spec. spec.hedging ≡ hedging) }
 {
     Ok(AccountSpec {
@@ -100,7 +103,7 @@ fn account(alloc: Global, hedging: bool) -> Result<AccountSpec, OutOfMemory>
 }
 
 /// Bid and Ask at 1.1000.
-fn prices(alloc: Global) -> Result<Prices, OutOfMemory>
+pub(crate) fn prices(alloc: Global) -> Result<Prices, OutOfMemory>
     ensures { IfOk result (λ list. length list ≡ 1) }
 {
     let mut prices = Prices::new(alloc, 1)?;
@@ -109,7 +112,7 @@ fn prices(alloc: Global) -> Result<Prices, OutOfMemory>
 }
 
 /// A book with a buy limit of 0.1 at 1.0900, order 5.
-fn book(alloc: Global) -> Result<Orders, Fail> {
+pub(crate) fn book(alloc: Global) -> Result<Orders, Fail> {
     let mut book = Orders::new(alloc);
     book.place(Order {
         ticket: 5,
@@ -174,7 +177,7 @@ fn follow<P: PositionRule>(
 }
 
 /// A request to buy 0.1.
-const BUY: Asked = ((1, 0, 0), 100, (0, 0, 0, 0), (0, 0), (0, 0, 0));
+pub(crate) const BUY: Asked = ((1, 0, 0), 100, (0, 0, 0, 0), (0, 0), (0, 0, 0));
 
 #[test]
 fn deals(rt: HostRuntime) -> Result<(), Fail> {
