@@ -1,7 +1,6 @@
 //! The codes of worked requests: one refused request for each rule of each action.
 ghost use Rattle.std.specs.Prelude.{◌≡◌, ◌≤◌, IfOk, All, length, pos, ◌<ℤ◌};
 ghost use Rattle.market_types.specs.Ranges.{IsSpec};
-ghost use Rattle.account.specs.Ranges.{IsAccount};
 
 use account::{AccountSpec, DealReason, EventList, Order, OrderKind, OrderTime, Prices};
 use fx8::{Fix8, ItemList, Money, OutOfMemory, Text, Text8};
@@ -13,7 +12,7 @@ use std::alloc::Global;
 use std::test::Fail;
 
 /// 2020.01.02 10:00, in seconds.
-pub(crate) const NOW: i64 = 1_577_959_200;
+const NOW: i64 = 1_577_959_200;
 
 /// The symbol of the tests, and one that there is not.
 pub(crate) const EURUSD: &[u16] = &[69, 85, 82, 85, 83, 68];
@@ -86,11 +85,9 @@ pub(crate) fn specs(alloc: Global) -> Result<Specs, OutOfMemory>
 }
 
 /// An account of 1,000.00 at a leverage of 100.
-pub(crate) fn account(alloc: Global, hedging: bool) -> Result<AccountSpec, OutOfMemory>
+fn account(alloc: Global, hedging: bool) -> Result<AccountSpec, OutOfMemory>
     ensures specs { IfOk result (λ spec. All IsSpec spec.specs) }
     ensures one { IfOk result (λ spec. length spec.specs ≡ 1) }
-    ensures account { IfOk result IsAccount }
-    ensures deposit { IfOk result (λ spec. spec.deposit ≡ pos 100000) }
     ensures kind { IfOk result (λ spec. spec.hedging ≡ hedging) }
 {
     Ok(AccountSpec {
@@ -112,7 +109,7 @@ pub(crate) fn prices(alloc: Global) -> Result<Prices, OutOfMemory>
 }
 
 /// A book with a buy limit of 0.1 at 1.0900, order 5.
-pub(crate) fn book(alloc: Global) -> Result<Orders, Fail> {
+fn book(alloc: Global) -> Result<Orders, Fail> {
     let mut book = Orders::new(alloc);
     book.place(Order {
         ticket: 5,

@@ -1,51 +1,87 @@
 //! The rule of money: EURUSD at Bid and Ask 1.1000, 1,000.00 and a leverage of 100, so that a lot binds 1,100.00.
-ghost use Rattle.std.specs.Prelude.{◌≡◌, ◌∷◌, [], IfOk, length, false, pos};
-ghost use Rattle.account.specs.Journal.{deposit_deal};
-ghost use Rattle.account.specs.declared.event.Event.TheVariants as event;
+ghost use Rattle.std.specs.Prelude.{◌≡◌, [], IfOk, All, length, false, pos};
+ghost use Rattle.market_types.specs.Ranges.{IsSpec};
+ghost use Rattle.account.specs.Ranges.{IsAccount};
+ghost use Rattle.judgement_tests.specs.Begun.{HasDeposit};
 
-use crate::codes::{Asked, BUY, EURUSD, NOW, account, book, prices, request_of, specs};
-use account::{Ledger, Prices};
-use fx8::OutOfMemory;
-use judgement::{Judged, Next, judge_request};
+use crate::codes::{Asked, BUY, EURUSD, prices, request_of, specs};
+use account::{AccountSpec, Ledger, Prices};
+use fx8::{Money, OutOfMemory};
+use judgement::{Judged, Next, Request, judge_request};
+use market_types::Specs;
+use order_book::Orders;
 use positions::Netting;
 use std::alloc::Global;
 use std::test::Fail;
 
-/// The ledger of an account that has its deposit alone.
-fn ledger(alloc: Global) -> Result<Ledger, OutOfMemory>
-    ensures events { IfOk result (λ ledger. ledger.events ≡ event.Added (deposit_deal ledger.spec) ∷ []) }
-    ensures deposit { IfOk result (λ ledger. ledger.spec.deposit ≡ pos 100000) }
-    ensures one { IfOk result (λ ledger. length ledger.spec.specs ≡ 1) }
-    ensures kind { IfOk result (λ ledger. ledger.spec.hedging ≡ false) }
+/// An account of 1,000.00 at a leverage of 100, under netting.
+fn account_of(specs: Specs) -> AccountSpec
+    requires specs { All IsSpec specs }
+    requires one { length specs ≡ 1 }
+    ensures account { IsAccount result }
+    ensures deposit { result.deposit ≡ pos 100000 }
+    ensures one { length result.specs ≡ 1 }
+    ensures kind { result.hedging ≡ false }
 {
-    let spec = account(alloc, false)?;
-    Ledger::start(alloc, spec)
+    AccountSpec {
+        hedging: false,
+        deposit: Money::of_cents(100_000),
+        leverage: 100,
+        stop_out: 50,
+        specs,
+    }
 }
 
-/// The number of the code that is told to a request, 0 where it is accepted.
-#[tactic(auto, using(crate::proofs::Begun::begun_room, crate::proofs::Begun::begun_open))]
+/// The ledger of an account that has its deposit alone.
+fn ledger(alloc: Global) -> Result<Ledger, OutOfMemory>
+    ensures { IfOk result (λ ledger. HasDeposit ledger) }
+{
+    let specs = specs(alloc)?;
+    Ledger::start(alloc, account_of(specs))
+}
+
+/// The number of a code, 0 where the request is accepted.
+fn number_of(judged: &Judged) -> u32 {
+    match judged {
+        Judged::Refused(code) => code.number(),
+        Judged::Accepted(_) => 0,
+    }
+}
+
+/// What is told to a request.
+#[tactic(auto, using(crate::proofs::Begun::begun_open))]
+fn judged(
+    alloc: Global,
+    ledger: &Ledger,
+    orders: &Orders,
+    rule: &Netting,
+    prices: &Prices,
+    request: &Request,
+) -> Result<Judged, OutOfMemory>
+    requires ledger { HasDeposit ledger.now }
+    requires positions { rule.now.positions ≡ [] }
+    requires prices { length prices.now ≡ 1 }
+{
+    let next = Next { order: 6, deal: 2 };
+    judge_request(alloc, ledger, orders, rule, prices, 0, next, request)
+}
+
+/// The number of the code that is told to a request of no orders, 0 where it is accepted.
 fn told(
     alloc: Global,
     ledger: &Ledger,
     rule: &Netting,
     prices: &Prices,
     asked: &Asked,
-) -> Result<u32, Fail>
-    requires events { ledger.now.events ≡ event.Added (deposit_deal ledger.now.spec) ∷ [] }
-    requires deposit { ledger.now.spec.deposit ≡ pos 100000 }
-    requires one { length ledger.now.spec.specs ≡ 1 }
-    requires kind { ledger.now.spec.hedging ≡ false }
+) -> Result<u32, OutOfMemory>
+    requires ledger { HasDeposit ledger.now }
     requires positions { rule.now.positions ≡ [] }
     requires prices { length prices.now ≡ 1 }
 {
-    let orders = book(alloc)?;
+    let orders = Orders::new(alloc);
     let request = request_of(alloc, EURUSD, asked)?;
-    let next = Next { order: 6, deal: 2 };
-    let time_ms = NOW * 1_000;
-    match judge_request(alloc, ledger, &orders, rule, prices, time_ms, next, &request)? {
-        Judged::Refused(code) => Ok(code.number()),
-        Judged::Accepted(_) => Ok(0),
-    }
+    let judged = judged(alloc, ledger, &orders, rule, prices, &request)?;
+    Ok(number_of(&judged))
 }
 
 /// A request to buy or to sell so many thousandths of a lot.
