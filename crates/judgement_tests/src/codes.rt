@@ -15,13 +15,13 @@ use std::test::Fail;
 const NOW: i64 = 1_577_959_200;
 
 /// The symbol of the tests, and one that there is not.
-pub(crate) const EURUSD: &[u16] = &[69, 85, 82, 85, 83, 68];
+const EURUSD: &[u16] = &[69, 85, 82, 85, 83, 68];
 
 const GBPUSD: &[u16] = &[71, 66, 80, 85, 83, 68];
 
 /// A request: action, type of the order, filling; volume in thousandths; price, stop-limit price, stop loss
 /// and take profit in ten-thousandths; type of time and expiration; order, position and opposite position.
-pub(crate) type Asked = (
+type Asked = (
     (u32, u32, u32),
     i32,
     (i32, i32, i32, i32),
@@ -40,7 +40,7 @@ fn volume(thousandths: i32) -> Fix8 {
     Fix8::of_units(thousandths as i64 * 100_000)
 }
 
-pub(crate) fn request_of(alloc: Global, name: &[u16], asked: &Asked) -> Result<Request, OutOfMemory> {
+fn request_of(alloc: Global, name: &[u16], asked: &Asked) -> Result<Request, OutOfMemory> {
     let ((action, kind, filling), lots, (at, stoplimit, sl, tp), (type_time, expiration), tickets) =
         *asked;
     Ok(Request {
@@ -75,7 +75,7 @@ fn symbol(alloc: Global) -> Result<SymbolSpec, OutOfMemory>
 }
 
 /// A list of one symbol.
-pub(crate) fn specs(alloc: Global) -> Result<Specs, OutOfMemory>
+fn specs(alloc: Global) -> Result<Specs, OutOfMemory>
     ensures specs { IfOk result (All IsSpec) }
     ensures one { IfOk result (λ list. length list ≡ 1) }
 {
@@ -100,7 +100,7 @@ fn account(alloc: Global, hedging: bool) -> Result<AccountSpec, OutOfMemory>
 }
 
 /// Bid and Ask at 1.1000.
-pub(crate) fn prices(alloc: Global) -> Result<Prices, OutOfMemory>
+fn prices(alloc: Global) -> Result<Prices, OutOfMemory>
     ensures { IfOk result (λ list. length list ≡ 1) }
 {
     let mut prices = Prices::new(alloc, 1)?;
@@ -174,7 +174,7 @@ fn follow<P: PositionRule>(
 }
 
 /// A request to buy 0.1.
-pub(crate) const BUY: Asked = ((1, 0, 0), 100, (0, 0, 0, 0), (0, 0), (0, 0, 0));
+const BUY: Asked = ((1, 0, 0), 100, (0, 0, 0, 0), (0, 0), (0, 0, 0));
 
 #[test]
 fn deals(rt: HostRuntime) -> Result<(), Fail> {
