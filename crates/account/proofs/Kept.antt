@@ -38,17 +38,17 @@ rising_over ps (e ∷ es) r = rising_over (positions_after ps e) es (rising_afte
 pub rising_open : (es : List Event) → Rising position_ticket (open_positions es)
 rising_open es = rising_over [] es tt
 
-deals_more : (es : List Event) (e : Event) → deals (es ++ e ∷ []) ≡ deals es ++ cons_option (deal_of e) []
+pub deals_more : (es : List Event) (e : Event) → deals (es ++ e ∷ []) ≡ deals es ++ cons_option (deal_of e) []
 deals_more es e = filter_map-append deal_of es (e ∷ [])
 
-open_more : (es : List Event) (e : Event) → open_positions (es ++ e ∷ []) ≡ positions_after (open_positions es) e
+pub open_more : (es : List Event) (e : Event) → open_positions (es ++ e ∷ []) ≡ positions_after (open_positions es) e
 open_more es e = fold-append positions_after [] es (e ∷ [])
 
 behind_first : (ds : List Deal) (x d : Deal) → take 1 ds ≡ x ∷ [] → drop 1 (ds ++ d ∷ []) ≡ drop 1 ds ++ d ∷ []
 behind_first [] x d h = cc
 behind_first (y ∷ ds) x d h = refl
 
-still_first : (ds : List Deal) (x d : Deal) → take 1 ds ≡ x ∷ [] → take 1 (ds ++ d ∷ []) ≡ x ∷ []
+pub still_first : (ds : List Deal) (x d : Deal) → take 1 ds ≡ x ∷ [] → take 1 (ds ++ d ∷ []) ≡ x ∷ []
 still_first [] x d h = cc
 still_first (y ∷ ds) x d h = h
 
@@ -64,7 +64,7 @@ swap_held : (amount : ℤ) (o : Option Position) → IfSome o IsHeld → IfSome 
 swap_held amount None h f = tt
 swap_held amount (Some p) h f = record { some = h.some; volume = h.volume; price = h.price; swap = f }
 
-held_after : (ps : List Position) (e : Event) → All IsHeld ps → KeepsTypes ps e → All IsHeld (positions_after ps e)
+pub held_after : (ps : List Position) (e : Event) → All IsHeld ps → KeepsTypes ps e → All IsHeld (positions_after ps e)
 held_after ps (Added d) h k =
     (elim (is_balance d.kind) as (λ b. MatchBool b ⊤ (MayDeal d (item position_ticket d.position ps)) → All IsHeld (cond b ps (put position_ticket d.position (after_deal d (item position_ticket d.position ps)) ps))) [
       | true ↦ λ m. h

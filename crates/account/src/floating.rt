@@ -88,12 +88,7 @@ fn floating_sum(specs: &Specs, prices: &Prices, positions: &[Position]) -> Money
 
 /// The equity: a balance and the floating profits of positions, at the last loud Bid for a buy and Ask for a sell
 /// (MetaTrader 5 Help, Margin Calculation). Sum and parts are to fit 128 bits.
-pub fn equity_of(
-    specs: &Specs,
-    prices: &Prices,
-    balance: Money,
-    positions: &[Position],
-) -> Money
+pub fn equity_of(specs: &Specs, prices: &Prices, balance: Money, positions: &[Position]) -> Money
     requires specs { All IsSpec specs.now }
     requires floats { All (Floats specs.now prices.now) positions.now }
     requires fits { FitsSigned w128 (equity_of specs.now prices.now balance positions.now) }

@@ -168,6 +168,7 @@ lots low v high b l h e =
     first : (a b c : Bool) → (a && b && c) ≡ true → a ≡ true
     first true b c h = refl
     first false b c h = cc
+
     second : (a b c : Bool) → (a && b && c) ≡ true → b ≡ true
     second true true c h = refl
     second true false c h = cc

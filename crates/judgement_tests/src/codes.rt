@@ -1,7 +1,6 @@
 //! The codes of worked requests: one refused request for each rule of each action.
 ghost use Rattle.std.specs.Prelude.{◌≡◌, ◌≤◌, IfOk, All, length, pos, ◌<ℤ◌};
 ghost use Rattle.market_types.specs.Ranges.{IsSpec};
-ghost use Rattle.account.specs.Ranges.{IsAccount};
 
 use account::{AccountSpec, DealReason, EventList, Order, OrderKind, OrderTime, Prices};
 use fx8::{Fix8, ItemList, Money, OutOfMemory, Text, Text8};
@@ -13,16 +12,16 @@ use std::alloc::Global;
 use std::test::Fail;
 
 /// 2020.01.02 10:00, in seconds.
-pub(crate) const NOW: i64 = 1_577_959_200;
+const NOW: i64 = 1_577_959_200;
 
 /// The symbol of the tests, and one that there is not.
-pub(crate) const EURUSD: &[u16] = &[69, 85, 82, 85, 83, 68];
+const EURUSD: &[u16] = &[69, 85, 82, 85, 83, 68];
 
 const GBPUSD: &[u16] = &[71, 66, 80, 85, 83, 68];
 
 /// A request: action, type of the order, filling; volume in thousandths; price, stop-limit price, stop loss
 /// and take profit in ten-thousandths; type of time and expiration; order, position and opposite position.
-pub(crate) type Asked = (
+type Asked = (
     (u32, u32, u32),
     i32,
     (i32, i32, i32, i32),
@@ -41,7 +40,7 @@ fn volume(thousandths: i32) -> Fix8 {
     Fix8::of_units(thousandths as i64 * 100_000)
 }
 
-pub(crate) fn request_of(alloc: Global, name: &[u16], asked: &Asked) -> Result<Request, OutOfMemory> {
+fn request_of(alloc: Global, name: &[u16], asked: &Asked) -> Result<Request, OutOfMemory> {
     let ((action, kind, filling), lots, (at, stoplimit, sl, tp), (type_time, expiration), tickets) =
         *asked;
     Ok(Request {
@@ -76,7 +75,7 @@ fn symbol(alloc: Global) -> Result<SymbolSpec, OutOfMemory>
 }
 
 /// A list of one symbol.
-pub(crate) fn specs(alloc: Global) -> Result<Specs, OutOfMemory>
+fn specs(alloc: Global) -> Result<Specs, OutOfMemory>
     ensures specs { IfOk result (All IsSpec) }
     ensures one { IfOk result (λ list. length list ≡ 1) }
 {
@@ -86,11 +85,9 @@ pub(crate) fn specs(alloc: Global) -> Result<Specs, OutOfMemory>
 }
 
 /// An account of 1,000.00 at a leverage of 100.
-pub(crate) fn account(alloc: Global, hedging: bool) -> Result<AccountSpec, OutOfMemory>
+fn account(alloc: Global, hedging: bool) -> Result<AccountSpec, OutOfMemory>
     ensures specs { IfOk result (λ spec. All IsSpec spec.specs) }
     ensures one { IfOk result (λ spec. length spec.specs ≡ 1) }
-    ensures account { IfOk result IsAccount }
-    ensures deposit { IfOk result (λ spec. spec.deposit ≡ pos 100000) }
     ensures kind { IfOk result (λ spec. spec.hedging ≡ hedging) }
 {
     Ok(AccountSpec {
@@ -103,7 +100,7 @@ pub(crate) fn account(alloc: Global, hedging: bool) -> Result<AccountSpec, OutOf
 }
 
 /// Bid and Ask at 1.1000.
-pub(crate) fn prices(alloc: Global) -> Result<Prices, OutOfMemory>
+fn prices(alloc: Global) -> Result<Prices, OutOfMemory>
     ensures { IfOk result (λ list. length list ≡ 1) }
 {
     let mut prices = Prices::new(alloc, 1)?;
@@ -112,7 +109,7 @@ pub(crate) fn prices(alloc: Global) -> Result<Prices, OutOfMemory>
 }
 
 /// A book with a buy limit of 0.1 at 1.0900, order 5.
-pub(crate) fn book(alloc: Global) -> Result<Orders, Fail> {
+fn book(alloc: Global) -> Result<Orders, Fail> {
     let mut book = Orders::new(alloc);
     book.place(Order {
         ticket: 5,
@@ -177,7 +174,7 @@ fn follow<P: PositionRule>(
 }
 
 /// A request to buy 0.1.
-pub(crate) const BUY: Asked = ((1, 0, 0), 100, (0, 0, 0, 0), (0, 0), (0, 0, 0));
+const BUY: Asked = ((1, 0, 0), 100, (0, 0, 0, 0), (0, 0), (0, 0, 0));
 
 #[test]
 fn deals(rt: HostRuntime) -> Result<(), Fail> {

@@ -26,7 +26,7 @@ use Rattle.positions.proofs.Filling.{may_deal, not_balance}
 use Rattle.positions.proofs.Filled.{held_deal}
 use Rattle.positions.proofs.Lengths.{open_length}
 
-other_side : (b : Bool) → same_side b (not b) ≡ false
+pub other_side : (b : Bool) → same_side b (not b) ≡ false
 other_side true = refl
 other_side false = refl
 
@@ -35,10 +35,10 @@ own_side true = refl
 own_side false = refl
 
 -- the smaller volume is some, and a double
-common_some : (p q : Position) → IsHeld p → IsHeld q → pos 0 <ℤ common p q
+pub common_some : (p q : Position) → IsHeld p → IsHeld q → pos 0 <ℤ common p q
 common_some p q h k = elim (int_lt p.volume q.volume) as (λ b. pos 0 <ℤ cond b p.volume q.volume) [ true ↦ h.some | false ↦ k.some ]
 
-common_fits : (p q : Position) → IsHeld p → IsHeld q → FitsSigned w64 (common p q)
+pub common_fits : (p q : Position) → IsHeld p → IsHeld q → FitsSigned w64 (common p q)
 common_fits p q h k = elim (int_lt p.volume q.volume) as (λ b. FitsSigned w64 (cond b p.volume q.volume)) [ true ↦ h.volume | false ↦ k.volume ]
 
 -- a deal on the other side of a position keeps the types of its numbers
@@ -59,7 +59,7 @@ open_after ps d p o e k =
     record { rising = rising_after ps (Added d) o.rising; held = held_deal ps d o.held k; few = let f : length ps < 2 ^ 32 = o.few in omega (arith, l, f) }
 
 -- opposite positions have other tickets
-apart : (ps : List Position) (p q : Position) → item position_ticket p.ticket ps ≡ Some p → item position_ticket q.ticket ps ≡ Some q → same_side p.buy q.buy ≡ false → eqb p.ticket q.ticket ≡ false
+pub apart : (ps : List Position) (p q : Position) → item position_ticket p.ticket ps ≡ Some p → item position_ticket q.ticket ps ≡ Some q → same_side p.buy q.buy ≡ false → eqb p.ticket q.ticket ≡ false
 apart ps p q e f s =
     (elim (eqb p.ticket q.ticket) as (λ b. eqb p.ticket q.ticket ≡ b → b ≡ false) [
       | true ↦ λ g.
@@ -76,7 +76,7 @@ apart ps p q e f s =
     own_not false h = cc
 
 -- what stands at the ticket of an item
-item_ticket : (ps : List Position) (n : ℕ) (p : Position) → item position_ticket n ps ≡ Some p → item position_ticket p.ticket ps ≡ Some p
+pub item_ticket : (ps : List Position) (n : ℕ) (p : Position) → item position_ticket n ps ≡ Some p → item position_ticket p.ticket ps ≡ Some p
 item_ticket ps n p h =
     let k : KeyIs position_ticket n (Some p) = subst (λ (o : Option Position). KeyIs position_ticket n o) h (item_key position_ticket n ps) in
     subst (λ (t : ℕ). item position_ticket t ps ≡ Some p) (sym k) h
@@ -93,7 +93,7 @@ pub record Closes (ps : List Position) (d e : Deal) : Type 0 where
   pub left : IsOpen (positions_after (positions_after ps (Added d)) (Added e))
 
 -- another position stands as it was
-still : (ps : List Position) (d : Deal) (t : ℕ) (q : Position) → is_balance d.kind ≡ false → eqb d.position t ≡ false → item position_ticket t ps ≡ Some q → item position_ticket t (positions_after ps (Added d)) ≡ Some q
+pub still : (ps : List Position) (d : Deal) (t : ℕ) (q : Position) → is_balance d.kind ≡ false → eqb d.position t ≡ false → item position_ticket t ps ≡ Some q → item position_ticket t (positions_after ps (Added d)) ≡ Some q
 still ps d t q b n e =
     subst (λ (x : Bool). item position_ticket t (cond x ps (put position_ticket d.position (after_deal d (item position_ticket d.position ps)) ps)) ≡ Some q) (sym b)
     (item-put-other position_ticket d.position t (after_deal d (item position_ticket d.position ps)) ps (after-deal-key d (item position_ticket d.position ps) (item_key position_ticket d.position ps)) n ∙ e)

@@ -12,9 +12,7 @@ ghost use Rattle.positions.specs.Money.{has_money, added_by, has_money_for, even
 
 use crate::acts::fill_on;
 use crate::{Fill, FillFault};
-use account::{
-    Event, EventList, Ledger, Position, Prices, copy_text, equity_of, margin_by, net,
-};
+use account::{Event, EventList, Ledger, Position, Prices, copy_text, equity_of, margin_by, net};
 use fx8::{Money, OutOfMemory, Text};
 use market_types::Specs;
 use std::alloc::Global;

@@ -1,0 +1,16 @@
+pub mod Changes
+pub mod Days
+pub mod Entered
+pub mod Filling
+pub mod Fits
+pub mod Judged
+pub mod Lasting
+pub mod Outcomes
+pub mod Paired
+pub mod Pairs
+pub mod Paying
+pub mod Ready
+pub mod Room
+pub mod Samples
+pub mod Stepping
+pub mod Sums

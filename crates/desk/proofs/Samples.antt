@@ -1,0 +1,101 @@
+-- Samples of the definitions, worked out by hand.
+use Rattle.std.proofs.Common.{refl, ◌≡◌, true, false, Bool, ℕ, ℤ, pos, neg_ℤ, [], ◌∷◌, List, Option, Some, None}
+use Rattle.fx8.specs.Rounding.{rounded}
+use Rattle.market_types.specs.declared.quote.Quote.{Quote}
+use Rattle.market_types.specs.declared.symbol_spec.SymbolSpec.{SymbolSpec}
+use Rattle.account.specs.declared.account_spec.AccountSpec.{AccountSpec}
+use Rattle.account.specs.declared.deal.Deal.{Deal}
+use Rattle.account.specs.declared.deal.DealKind.TheVariants as kind
+use Rattle.account.specs.declared.deal.DealEntry.TheVariants as entry
+use Rattle.account.specs.declared.deal.DealReason.TheVariants as reason
+use Rattle.account.specs.declared.order.Order.{Order}
+use Rattle.account.specs.declared.order.OrderKind.{OrderKind}
+use Rattle.account.specs.declared.order.OrderKind.TheVariants as order
+use Rattle.account.specs.declared.order.OrderTime.TheVariants as time
+use Rattle.account.specs.declared.event.Event.{Event}
+use Rattle.account.specs.declared.event.Event.TheVariants as event
+use Rattle.account.specs.declared.event.RemovalCause.TheVariants as cause
+use Rattle.account.specs.Deals.{balance, net, deals}
+use Rattle.account.specs.Firing.{fires, is_over, stop_reason, stops}
+use Rattle.account.specs.Journal.{deposit_deal}
+use Rattle.account.specs.Money.{profit, margin, commission, weighted_price, portion}
+use Rattle.account.specs.Orders.{orders_in_force}
+use Rattle.account.specs.Positions.{open_positions}
+use Rattle.account.specs.Statistics.{greater}
+use Rattle.account.specs.StopOut.{floating, position_margin, is_due}
+use Rattle.judgement.specs.Rules.{second_of, day_begin, day_end}
+use Rattle.positions.specs.Fills.{given_or}
+use Rattle.desk.specs.Effect.{Run, effect, swaps, closing}
+use Rattle.positions.specs.Money.{has_money}
+use Rattle.desk.specs.Nights.{night_after, nights_between, swap_amount}
+use Rattle.desk.specs.State.{Quoted, have_room}
+use Rattle.desk.specs.Tickets.{greater_number}
+
+-- from Wednesday 2020.01.01 to the next day three nights count, from Friday to Monday one
+triple : nights_between 3 (Some (pos 1577836800000)) (pos 1577923200000) ≡ 3
+unfolding night_after
+triple = refl
+
+weekend : nights_between 3 (Some (pos 1578009600000)) (pos 1578268800000) ≡ 1
+unfolding night_after
+weekend = refl
+
+abbrev symbol : SymbolSpec
+symbol = record {
+  name = 69 ∷ [];
+  file = [];
+  digits = 5;
+  contract = 100000;
+  volume_min = pos 1000000;
+  volume_max = pos 10000000000;
+  volume_step = pos 1000000;
+  stops_level = 0;
+  spread = None;
+  commission = pos 0;
+  swap_long = neg_ℤ (pos 500);
+  swap_short = pos 0;
+  swap_day = 3;
+}
+
+abbrev spec : AccountSpec
+spec = record { hedging = false; deposit = pos 100000; leverage = 100; stop_out = 50; specs = symbol ∷ [] }
+
+-- 0.5 lots bought at 1.2
+abbrev buy : Deal
+buy = record {
+  ticket = 2;
+  order = 1;
+  position = 1;
+  time_ms = pos 1577836800000;
+  symbol = 0;
+  kind = kind.Buy;
+  entry = entry.In;
+  volume = pos 50000000;
+  price = pos 120000000;
+  profit = pos 0;
+  swap = pos 0;
+  commission = pos 0;
+  magic = 0;
+  reason = reason.Expert;
+  comment = [];
+}
+
+abbrev begun : List Event → ℤ → Quoted
+begun events time_ms = record {
+  spec = spec;
+  events = event.Added (deposit_deal spec) ∷ events;
+  prices = Some (pos 120000000, pos 120000000) ∷ [];
+  times = Some time_ms ∷ [];
+}
+
+abbrev at : ℤ → ℤ → Quote
+at time_ms price = record { symbol = 0; time_ms = time_ms; bid = price; ask = price; last = pos 0; volume = pos 0; flags = 6; loud = true }
+
+-- its swap from Wednesday to Thursday is -7.50, from Friday to Monday -2.50
+wednesday : swaps (begun (event.Added buy ∷ []) (pos 1577836800000)) (at (pos 1577923200000) (pos 120000000)) ≡ event.Swap 1 (neg_ℤ (pos 750)) ∷ []
+unfolding night_after swap_amount rounded
+wednesday = refl
+
+friday : swaps (begun (event.Added buy ∷ []) (pos 1578009600000)) (at (pos 1578268800000) (pos 120000000)) ≡ event.Swap 1 (neg_ℤ (pos 250)) ∷ []
+unfolding night_after swap_amount rounded
+friday = refl

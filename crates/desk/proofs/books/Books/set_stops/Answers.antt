@@ -1,0 +1,12 @@
+use Rattle.std.proofs.Common.{◌≡◌, ◌∙◌, false, refl, ap, sym, rules}
+use Rattle.account.specs.declared.event.Event.TheVariants as event
+use Rattle.account.specs.Orders.{orders_after}
+use Rattle.desk.specs.Books.{Kept}
+use Rattle.desk.proofs.Stepping.{step_quiet, of_modified}
+use Rattle.desk.proofs.books.Books.set_stops.Goals as goal
+
+pub invariant_of-self-2 : goal.invariant_of-self-2
+invariant_of-self-2 g c = λ e.
+    step_quiet (g.P.PositionRule.hedging c.self.inside.rule) (g.P.PositionRule.hedging c.set_stops-open.new.self) (g.P.PositionRule.specs c.self.inside.rule) (g.P.PositionRule.specs c.set_stops-open.new.self) (g.P.PositionRule.positions c.self.inside.rule) (g.P.PositionRule.positions c.set_stops-open.new.self)
+    c.self.inside.orders c.self.inside.orders c.self.inside.last c.self.inside.quoted c.enter.new.self (event.Stops c.args.ticket c.args.sl c.args.tp) refl
+    (c.self.invariant (ap (λ (k : Kept). k.broken) c.self.view_is ∙ c.requires.whole)) c.set_stops-open.ensures.same_kind c.set_stops-open.ensures.same_specs c.set_stops-open.ensures.positions refl c.in_ok-enter.ensures.ok

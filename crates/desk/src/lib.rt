@@ -1,0 +1,14 @@
+//! The desk: what a request and a quote make of an account, and the journal that they leave.
+#![tactic(auto)]
+
+mod books;
+mod copies;
+mod desk;
+mod fault;
+mod quoted;
+mod requests;
+mod trigger;
+
+pub use desk::Desk;
+pub use fault::DeskFault;
+pub use trigger::Trigger;
