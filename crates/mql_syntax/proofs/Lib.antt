@@ -1,5 +1,5 @@
 mod Rows
 pub mod Each
-mod Pieces
+mod Cutting
 mod Types
 mod Values

@@ -125,11 +125,12 @@ pub enum Member {
 }
 
 /// A class, a structure or an interface; with parameters that are types it is a template. One that is only
-/// announced is not defined, and has no parent and no members.
+/// announced is not defined, and has no parent and no members. Its place is that of the node that its name
+/// stands in, also where that node is a template's.
 #[derive(Drop)]
 pub struct Class {
     pub place: Place,
-    /// The number of nodes of the item that it is, with it.
+    /// The number of nodes of the item that it is, with it; of a template's, the template's.
     pub nodes: u32,
     /// The parameters that are types.
     pub types: ItemList<Text>,

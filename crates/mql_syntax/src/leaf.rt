@@ -25,7 +25,7 @@ pub(crate) fn parted<T>(items: &[T]) -> Option<(&T, &[T])>
 
 /// The place of the token that a tree begins with.
 #[cycle(first)]
-pub(crate) fn first(tree: &Tree) -> u32
+pub fn first(tree: &Tree) -> u32
     ensures { result ≡ first tree.now }
 {
     match tree {
@@ -47,7 +47,7 @@ fn first_of(trees: &[Tree]) -> u32
 
 /// The number of nodes of a tree, at most the largest number of 32 bits.
 #[cycle(nodes)]
-pub(crate) fn nodes(tree: &Tree) -> u32
+pub fn nodes(tree: &Tree) -> u32
     ensures { result ≡ nodes tree.now }
 {
     match tree {
@@ -95,7 +95,7 @@ fn head_in(classes: &[Class], tree: &Tree) -> Head
 }
 
 /// A tree as a part of the node of a number, where the next node has another number.
-fn part<'a>(classes: &[Class], inside: u32, next: u32, tree: &'a Tree) -> Part<'a>
+pub fn part<'a>(classes: &[Class], inside: u32, next: u32, tree: &'a Tree) -> Part<'a>
     ensures { part_seen result ≡ part_from classes.now inside next tree.now }
 {
     Part {
@@ -164,7 +164,7 @@ fn token_at(tokens: &[(Token, Span)], place: u32) -> Option<&Token>
 
 /// The token that a part is; a node is none.
 #[tactic(auto, unfolding(crate::specs::Leaves::token))]
-pub(crate) fn token<'a>(tokens: &'a [(Token, Span)], part: Part) -> Option<&'a Token>
+pub fn token<'a>(tokens: &'a [(Token, Span)], part: Part) -> Option<&'a Token>
     ensures { option_copied result ≡ token tokens.now (part_seen part.entry) }
 {
     match part.tree {
@@ -175,7 +175,7 @@ pub(crate) fn token<'a>(tokens: &'a [(Token, Span)], part: Part) -> Option<&'a T
 
 /// The name or reserved word that a part is.
 #[tactic(auto, unfolding(crate::specs::Leaves::name))]
-pub(crate) fn name_in<'a>(tokens: &'a [(Token, Span)], part: Part) -> Option<&'a [u16]>
+pub fn name_in<'a>(tokens: &'a [(Token, Span)], part: Part) -> Option<&'a [u16]>
     ensures { option_copied result ≡ name tokens.now (part_seen part.entry) }
 {
     match token(tokens, part) {
@@ -185,7 +185,7 @@ pub(crate) fn name_in<'a>(tokens: &'a [(Token, Span)], part: Part) -> Option<&'a
 }
 
 /// Reads the name or reserved word that a part is.
-pub(crate) fn name(alloc: Global, tokens: &[(Token, Span)], part: Part) -> Result<Text, Unread>
+pub fn name(alloc: Global, tokens: &[(Token, Span)], part: Part) -> Result<Text, Unread>
     ensures { Reads result (name tokens.now (part_seen part.entry)) }
 {
     match name_in(tokens, part) {

@@ -17,9 +17,11 @@ pub use declaration::{
     Start, Syntax, Variable, Words,
 };
 pub use kind::{Access, BinaryOperator, ClassKind, Place, StatementKind, Step, UnaryOperator};
-pub use leaf::{inner, place_of};
+pub use leaf::{first, inner, name, name_in, nodes, part, place_of, token};
+pub use lists::{pieces, without};
+pub use read_types::type_use;
 pub use read_values::{items, read_value, values_in};
-pub use read_variables::{Site, variables};
+pub use read_variables::{Site, scope_name, variable_of, variables, words_among};
 pub use statement::Statement;
 pub use unread::Unread;
 pub use value::{Operation, TypeUse, Value};

@@ -9,7 +9,7 @@ use mql_views::{Part, is_token};
 use std::alloc::Global;
 
 /// These parts, and then those of others that are no tokens of these classes.
-pub(crate) fn without<'a>(
+pub fn without<'a>(
     first: ItemList<Part<'a>>,
     dropped: &[Class],
     parts: &'a [Part<'a>],
@@ -46,7 +46,7 @@ fn divides(inside: bool, part: Part) -> bool
 }
 
 /// The pieces between commas that are in no parentheses.
-pub(crate) fn pieces<'a>(
+pub fn pieces<'a>(
     alloc: Global,
     parts: &'a [Part<'a>],
 ) -> Result<ItemList<&'a [Part<'a>]>, OutOfMemory>

@@ -80,7 +80,7 @@ fn named_part<'a>(
 
 /// Reads a type that stands at a node, where nodes go in one another at most as deep as the number says.
 #[cycle(types)]
-pub(crate) fn type_use(
+pub fn type_use(
     alloc: Global,
     tokens: &[(Token, Span)],
     classes: &[Class],

@@ -42,7 +42,7 @@ fn has(class: Class, parts: &[Part]) -> bool
 }
 
 /// The words among parts.
-fn words_among(parts: &[Part]) -> Words
+pub fn words_among(parts: &[Part]) -> Words
     ensures { result ≡ variables.words_among (seen parts.now) }
 {
     Words {
@@ -143,7 +143,7 @@ fn start(alloc: Global, site: Site, start: mql_views::Start) -> Result<Start, Un
 }
 
 /// The name of a class, where there is one.
-fn scope_name(
+pub fn scope_name(
     alloc: Global,
     tokens: &[(Token, Span)],
     scope: Option<Part>,
@@ -158,7 +158,7 @@ fn scope_name(
 
 /// Reads a variable of a type.
 #[tactic(auto, unfolding(crate::specs::Variables::variable_of))]
-fn variable_of(
+pub fn variable_of(
     alloc: Global,
     site: Site,
     words: Words,

@@ -1,2 +1,5 @@
 pub mod Statements
 pub mod Seen
+pub mod Functions
+pub mod Classes
+pub mod Items

@@ -1,6 +1,9 @@
 -- What the code's words show. (No definition for readers: borrowed parts as the parts themselves.)
 use Rattle.std.specs.Prelude.{List, map, option_map}
+use Rattle.mql_views.specs.Parts as views
+use Rattle.mql_views.specs.declared.part.Part.{Part}
 use Rattle.mql_views.specs.Seen.{part_seen, seen, simple_seen, variables_seen}
+use Rattle.mql_syntax.specs.declared.kind.Access.{Access}
 use Rattle.mql_syntax_read.specs.Statements as statements
 use Rattle.mql_syntax_read.specs.declared.read_statements.Piece.{Piece}
 use Rattle.mql_syntax_read.specs.declared.read_statements.Piece.TheVariants as code_piece
@@ -22,3 +25,7 @@ statement_seen s = record {
   values = seen s.values;
   parts = pieces_seen s.parts;
 }
+
+-- parts, each with where it is accessible
+abbrev pub accessed_seen : List (Access × Part) → List (Access × views.Part)
+accessed_seen ms = map (λ m. (m.0, part_seen m.1)) ms

@@ -381,7 +381,7 @@ fn label(alloc: Global, site: Site, value: Part) -> Result<Statement, Unread>
 
 /// Reads a statement that stands at a node, where nodes go in one another at most as deep as the number says.
 #[cycle(statements)]
-fn statement(
+pub(crate) fn statement(
     alloc: Global,
     tokens: &[(Token, Span)],
     classes: &[Class],

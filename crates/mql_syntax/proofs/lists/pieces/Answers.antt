@@ -3,7 +3,7 @@ use Rattle.std.proofs.lemmas.List.{map_push, take_rest}
 use Rattle.mql_views.specs.Seen.{part_seen, seen, all}
 use Rattle.mql_syntax.specs.Lists.{enclosed, pieces_from}
 use Rattle.mql_syntax.proofs.Each.{from_place}
-use Rattle.mql_syntax.proofs.Pieces.{at_comma, at_other, stretch_seen, ends_with, ends_without}
+use Rattle.mql_syntax.proofs.Cutting.{at_comma, at_other, stretch_seen, ends_with, ends_without}
 use Rattle.mql_syntax.proofs.lists.pieces.Goals as goal
 use Rattle.mql_syntax.proofs.lists.pieces.Goals.{then-divides+in_ok-push, else-divides, then-start-parts+in_ok-push-2, else-start-parts}
 
