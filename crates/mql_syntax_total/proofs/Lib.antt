@@ -1,0 +1,14 @@
+mod Gives
+mod Tokens
+mod Trees
+mod Pieces
+mod Types
+mod Values
+mod Read
+mod Variables
+mod Statements
+mod Parsed
+mod Functions
+mod Declarations
+mod Classes
+mod Programs
