@@ -1,5 +1,5 @@
 -- Classes, structures and interfaces (MQL5 Reference, Classes and Interfaces; Structures).
-use Rattle.std.specs.Prelude.{ℕ, false, true, List, [], ◌∷◌, ◌++◌, map, Option, Some, None, is_some, option_map, if◌then◌else◌}
+use Rattle.std.specs.Prelude.{ℕ, false, List, [], ◌∷◌, ◌++◌, map, Option, Some, None, is_some, option_map, if◌then◌else◌}
 use Rattle.mql_grammar.specs.declared.token_class.Class.{Class}
 use Rattle.mql_grammar.specs.declared.token_class.Class.TheVariants as class
 use Rattle.mql_spelling.specs.ReservedWords.{reserved_word}
@@ -11,7 +11,7 @@ use Rattle.mql_views.specs.Parts.{Part, nodes}
 use Rattle.mql_views.specs.Cuts.{on, is}
 use Rattle.mql_views.specs.Declarations as views
 use Rattle.mql_views.specs.Items as items
-use Rattle.mql_syntax.specs.Lists.{each, maybe}
+use Rattle.mql_syntax.specs.Lists.{maybe}
 use Rattle.mql_syntax.specs.Leaves.{name, place_of, inner}
 use Rattle.mql_syntax.specs.Types.{type_use}
 use Rattle.mql_syntax.specs.Variables.{variables}

@@ -13,7 +13,7 @@ use Rattle.mql_views.specs.Cuts.{on, is}
 use Rattle.mql_views.specs.Values.{in_braces}
 use Rattle.mql_views.specs.Declarations.{Variables}
 use Rattle.mql_views.specs.Statements as views
-use Rattle.mql_syntax.specs.Lists.{each, maybe}
+use Rattle.mql_syntax.specs.Lists.{each}
 use Rattle.mql_syntax.specs.Leaves.{place_of, inner}
 use Rattle.mql_syntax.specs.Values.{items, value}
 use Rattle.mql_syntax.specs.Variables.{variables}
