@@ -5,9 +5,7 @@ ghost use Rattle.natives.specs.declared.types.SimpleType.{SimpleType};
 ghost use Rattle.mql_syntax.specs.declared.value.TypeUse.{TypeUse};
 ghost use Rattle.mql_constants.specs.Constants as constants;
 
-use crate::number::{
-    binary, bool_of, chosen, complement, converted, holds, negative, same_number,
-};
+use crate::number::{binary, bool_of, chosen, complement, converted, holds, negative, same_number};
 use fx8::{IntOperator, ItemList, OutOfMemory};
 use mql_syntax::{BinaryOperator, Operation, TypeUse, UnaryOperator, Value};
 use natives::{ConstantValue, SimpleType};
@@ -92,9 +90,7 @@ fn two(parts: &[Option<ConstantValue>]) -> Option<(ConstantValue, ConstantValue)
     }
 }
 
-fn three(
-    parts: &[Option<ConstantValue>],
-) -> Option<(ConstantValue, ConstantValue, ConstantValue)>
+fn three(parts: &[Option<ConstantValue>]) -> Option<(ConstantValue, ConstantValue, ConstantValue)>
     ensures { result ≡ constants.three parts.now }
 {
     match parts {
@@ -165,15 +161,13 @@ pub fn constant_of<S: ConstantScope>(
 {
     match v {
         Value::Node {
-            what, types, parts, ..
+            what,
+            types,
+            parts,
+            ..
         } => {
             let found = constants_of(alloc, scope, parts.as_slice())?;
-            Ok(operated(
-                scope,
-                what,
-                types.as_slice(),
-                found.as_slice(),
-            ))
+            Ok(operated(scope, what, types.as_slice(), found.as_slice()))
         }
     }
 }

@@ -288,7 +288,11 @@ pub(crate) fn same_number(a: ConstantValue) -> ConstantValue
 
 /// What `test ? a : b` gives, of the common type of both.
 #[tactic(auto, unfolding(crate::specs::Numbers::chosen))]
-pub(crate) fn chosen(test: ConstantValue, a: ConstantValue, b: ConstantValue) -> Option<ConstantValue>
+pub(crate) fn chosen(
+    test: ConstantValue,
+    a: ConstantValue,
+    b: ConstantValue,
+) -> Option<ConstantValue>
     ensures { result ≡ numbers.chosen test a b }
 {
     let of = common_type(&a, &b);

@@ -35,7 +35,10 @@ fn params_told<J: Judge>(
     let mut told: Option<Broken> = None;
     let mut locals: ItemList<Text> = ItemList::new(alloc);
     for param in params {
-        told = sooner(told, variable_told(judge, locals.as_slice(), &param.variable)?);
+        told = sooner(
+            told,
+            variable_told(judge, locals.as_slice(), &param.variable)?,
+        );
         locals = with_local(alloc, locals, &param.variable)?;
     }
     Ok((told, locals))
@@ -62,11 +65,7 @@ fn field_told<J: Judge>(judge: &J, v: &Variable) -> Result<Option<Broken>, OutOf
     variable_told(judge, &[], v)
 }
 
-fn inner_told<J: Judge>(
-    alloc: Global,
-    judge: &J,
-    m: &Member,
-) -> Result<Option<Broken>, OutOfMemory>
+fn inner_told<J: Judge>(alloc: Global, judge: &J, m: &Member) -> Result<Option<Broken>, OutOfMemory>
     ensures { IfOk result (λ b. b ≡ told_by (J.breaks judge.now) (inner_things m.now)) }
 {
     match m {
@@ -129,11 +128,7 @@ fn enumerators_told<J: Judge>(judge: &J, enumerators: &[Enumerator]) -> Option<B
     told
 }
 
-fn item_told<J: Judge>(
-    alloc: Global,
-    judge: &J,
-    item: &Item,
-) -> Result<Option<Broken>, OutOfMemory>
+fn item_told<J: Judge>(alloc: Global, judge: &J, item: &Item) -> Result<Option<Broken>, OutOfMemory>
     ensures { IfOk result (λ b. b ≡ told_by (J.breaks judge.now) (item_things item.now)) }
 {
     match item {

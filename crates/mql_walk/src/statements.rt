@@ -66,10 +66,7 @@ fn statement_told<J: Judge>(
             let (variables, locals) = own_told(alloc, judge, locals, own.as_slice())?;
             let inner = values_told(judge, locals.as_slice(), values.as_slice());
             let (rest, locals) = parts_told(alloc, judge, shares(*what), locals, parts.as_slice())?;
-            Ok((
-                sooner(at, sooner(variables, sooner(inner, rest))),
-                locals,
-            ))
+            Ok((sooner(at, sooner(variables, sooner(inner, rest))), locals))
         }
     }
 }

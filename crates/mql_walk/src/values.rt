@@ -48,11 +48,7 @@ pub(crate) fn value_told<J: Judge>(judge: &J, locals: &[Text], v: &Value) -> Opt
 }
 
 #[cycle(values)]
-pub(crate) fn values_told<J: Judge>(
-    judge: &J,
-    locals: &[Text],
-    values: &[Value],
-) -> Option<Broken>
+pub(crate) fn values_told<J: Judge>(judge: &J, locals: &[Text], values: &[Value]) -> Option<Broken>
     ensures { result ≡ told_by (J.breaks judge.now) (flat_map (value_things locals.now) values.now) }
 {
     let mut told: Option<Broken> = None;
@@ -71,11 +67,7 @@ fn dimension_told<J: Judge>(judge: &J, locals: &[Text], dimension: &Dimension) -
     }
 }
 
-fn dimensions_told<J: Judge>(
-    judge: &J,
-    locals: &[Text],
-    dimensions: &[Dimension],
-) -> Option<Broken>
+fn dimensions_told<J: Judge>(judge: &J, locals: &[Text], dimensions: &[Dimension]) -> Option<Broken>
     ensures { result ≡ told_by (J.breaks judge.now)
         (flat_map (dimension_things locals.now) dimensions.now) }
 {

@@ -12,6 +12,7 @@ use Rattle.mql_walk.proofs.items.params_told.Goals as goal
 pub loop-param-preserved : goal.loop-param-preserved
 loop-param-preserved g c =
     let e = take_more c.args.params.now c.loop-param.param-index c.param-item.result c.loop-param-test.true ∙ ap (λ x. take c.loop-param.param-index c.args.params.now ++ x ∷ []) (sym c.param-item.is) in
-    let qs = take c.loop-param.param-index c.args.params.now in
-    (rw e (c.sooner-told.ensures ∙ params_more (g.J.Judge.breaks c.args.judge.now) c.as_slice.result.now qs c.param-item.result c.loop-param.told c.in_ok-variable_told.field-0 (c.as_slice.ensures ∙ c.loop-param.invariant.1) c.loop-param.invariant.0 c.in_ok-variable_told.ensures),
-    rw e (c.in_ok-locals.ensures ∙ ap (λ xs. xs ++ variable_name (param_variable c.param-item.result) ∷ []) c.loop-param.invariant.1 ∙ param_names_more qs c.param-item.result))
+    let qs = take c.loop-param.param-index c.args.params.now in (
+      rw e (c.sooner-told.ensures ∙ params_more (g.J.Judge.breaks c.args.judge.now) c.as_slice.result.now qs c.param-item.result c.loop-param.told c.in_ok-variable_told.field-0 (c.as_slice.ensures ∙ c.loop-param.invariant.1) c.loop-param.invariant.0 c.in_ok-variable_told.ensures),
+      rw e (c.in_ok-locals.ensures ∙ ap (λ xs. xs ++ variable_name (param_variable c.param-item.result) ∷ []) c.loop-param.invariant.1 ∙ param_names_more qs c.param-item.result),
+    )

@@ -12,14 +12,16 @@ use Rattle.mql_walk.proofs.statements.+statements.Goals as goal
 pub each_told-loop-s-preserved : goal.each_told-loop-s-preserved
 each_told-loop-s-preserved g t c =
     let e = take_more c.args.parts.now c.loop-s.s-index c.s-item.result c.loop-s-test.true ∙ ap (λ x. take c.loop-s.s-index c.args.parts.now ++ x ∷ []) (sym c.s-item.is) in
-    let ss = take c.loop-s.s-index c.args.parts.now in
-    (rw e (c.sooner-told.ensures ∙ parts_more (g.J.Judge.breaks c.args.judge.now) c.args.shared c.args.locals c.loop-s.inner ss c.s-item.result c.loop-s.told c.in_ok-one.one c.loop-s.invariant.1 c.loop-s.invariant.0 c.in_ok-one.ensures.0),
-    rw e (c.in_ok-inner.ensures ∙ ap (λ ls. behind c.args.shared ls c.s-item.result) (c.in_ok-one.ensures.1 ∙ c.loop-s.invariant.1) ∙ behind_more c.args.shared c.args.locals ss c.s-item.result))
+    let ss = take c.loop-s.s-index c.args.parts.now in (
+      rw e (c.sooner-told.ensures ∙ parts_more (g.J.Judge.breaks c.args.judge.now) c.args.shared c.args.locals c.loop-s.inner ss c.s-item.result c.loop-s.told c.in_ok-one.one c.loop-s.invariant.1 c.loop-s.invariant.0 c.in_ok-one.ensures.0),
+      rw e (c.in_ok-inner.ensures ∙ ap (λ ls. behind c.args.shared ls c.s-item.result) (c.in_ok-one.ensures.1 ∙ c.loop-s.invariant.1) ∙ behind_more c.args.shared c.args.locals ss c.s-item.result),
+    )
 
 pub parts_told-returns : goal.parts_told-returns
-parts_told-returns g t c =
-    (c.in_ok-told.ensures.0,
-    c.truncate.ensures ∙ ap (λ (n : ℕ). take n c.in_ok-told.behind) c.len-count.ensures ∙ ap (take _) c.in_ok-told.ensures.1 ∙ front_stays c.args.shared c.args.locals c.args.parts.now)
+parts_told-returns g t c = (
+  c.in_ok-told.ensures.0,
+  c.truncate.ensures ∙ ap (λ (n : ℕ). take n c.in_ok-told.behind) c.len-count.ensures ∙ ap (take _) c.in_ok-told.ensures.1 ∙ front_stays c.args.shared c.args.locals c.args.parts.now,
+)
 
 pub statement_told-returns : goal.statement_told-returns
 statement_told-returns g t c =
@@ -33,9 +35,10 @@ statement_told-returns g t c =
     let own = c.in_ok-variables.ensures in
     let inner : c.values_told-inner.result ≡ told_by br (flat_map (value_things c.args.locals) c.as_slice-3.result.now) = c.values_told-inner.ensures ∙ ap (λ ls. told_by br (flat_map (value_things ls) c.as_slice-3.result.now)) (c.as_slice-2.ensures ∙ own.1) in
     let rest = c.in_ok-rest.ensures in
-    let rest0 = rest.0 ∙ ap (λ ls. told_by br (list_things c.shares.result ls c.as_slice-4.result.now)) own.1 in
-    (at_statement br c.args.locals s (statement_place s) (statement_kind s) c.shares.result c.as_slice.result.now c.as_slice-3.result.now c.as_slice-4.result.now
-    c.sooner-3.result c.on_statement-at.result c.in_ok-variables.variables c.values_told-inner.result c.in_ok-rest.rest refl refl e3 e4 e5 e6
-    h own.0 inner rest0
-    (c.sooner-3.ensures ∙ ap (sooner c.on_statement-at.result) (c.sooner-2.ensures ∙ ap (sooner c.in_ok-variables.variables) c.sooner.ensures)),
-    rest.1 ∙ own.1)
+    let rest0 = rest.0 ∙ ap (λ ls. told_by br (list_things c.shares.result ls c.as_slice-4.result.now)) own.1 in (
+      at_statement br c.args.locals s (statement_place s) (statement_kind s) c.shares.result c.as_slice.result.now c.as_slice-3.result.now c.as_slice-4.result.now
+          c.sooner-3.result c.on_statement-at.result c.in_ok-variables.variables c.values_told-inner.result c.in_ok-rest.rest refl refl e3 e4 e5 e6
+          h own.0 inner rest0
+          (c.sooner-3.ensures ∙ ap (sooner c.on_statement-at.result) (c.sooner-2.ensures ∙ ap (sooner c.in_ok-variables.variables) c.sooner.ensures)),
+      rest.1 ∙ own.1,
+    )

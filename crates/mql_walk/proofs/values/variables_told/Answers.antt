@@ -11,6 +11,7 @@ use Rattle.mql_walk.proofs.values.variables_told.Goals as goal
 
 pub loop-v-preserved : goal.loop-v-preserved
 loop-v-preserved g c =
-    let e = take_more c.args.variables.now c.loop-v.v-index c.v-item.result c.loop-v-test.true ∙ ap (λ x. take c.loop-v.v-index c.args.variables.now ++ x ∷ []) (sym c.v-item.is) in
-    (rw e (c.sooner-told.ensures ∙ variables_more (g.J.Judge.breaks c.args.judge.now) c.args.locals c.as_slice.result.now (take c.loop-v.v-index c.args.variables.now) c.v-item.result c.loop-v.told c.in_ok-variable_told.field-0 (c.as_slice.ensures ∙ c.loop-v.invariant.1) c.loop-v.invariant.0 c.in_ok-variable_told.ensures),
-    rw e (c.in_ok-inner.ensures ∙ ap (λ xs. xs ++ variable_name c.v-item.result ∷ []) c.loop-v.invariant.1 ∙ names_more c.args.locals (take c.loop-v.v-index c.args.variables.now) c.v-item.result))
+    let e = take_more c.args.variables.now c.loop-v.v-index c.v-item.result c.loop-v-test.true ∙ ap (λ x. take c.loop-v.v-index c.args.variables.now ++ x ∷ []) (sym c.v-item.is) in (
+      rw e (c.sooner-told.ensures ∙ variables_more (g.J.Judge.breaks c.args.judge.now) c.args.locals c.as_slice.result.now (take c.loop-v.v-index c.args.variables.now) c.v-item.result c.loop-v.told c.in_ok-variable_told.field-0 (c.as_slice.ensures ∙ c.loop-v.invariant.1) c.loop-v.invariant.0 c.in_ok-variable_told.ensures),
+      rw e (c.in_ok-inner.ensures ∙ ap (λ xs. xs ++ variable_name c.v-item.result ∷ []) c.loop-v.invariant.1 ∙ names_more c.args.locals (take c.loop-v.v-index c.args.variables.now) c.v-item.result),
+    )
