@@ -1,4 +1,1 @@
-pub mod Faults
-pub mod Scopes
 pub mod Joined
-pub mod MeantMore

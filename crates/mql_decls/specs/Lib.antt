@@ -1,8 +1,3 @@
-pub mod Faults
-pub mod Scopes
-pub mod Maps
-pub mod Types
-pub mod Meanings
-pub mod Things
-pub mod Events
+pub mod Declarations
 pub mod Rules
+pub mod Expands

@@ -1,17 +1,13 @@
-//! What the names of a program mean: its declarations, and the rules that they must keep.
+//! The declarations of a program.
 #![tactic(auto)]
 
-mod event;
+mod expanding;
 mod fault;
-mod items;
-mod program;
-mod rules;
-mod scope;
-mod types;
-mod walk;
+mod forms;
+mod judge;
+mod made;
 
-pub use event::{EVENTS, Event};
-pub use fault::Broken;
-pub use program::first_broken;
-pub use scope::Named;
-pub use types::{Meaning, Sort};
+pub use expanding::{Decls, expand};
+pub use fault::{DeclFault, Refusal};
+pub use forms::{FunctionForm, GlobalForm, ParamForm, StructureForm, TypeForm, VariableForm};
+pub use judge::refused;

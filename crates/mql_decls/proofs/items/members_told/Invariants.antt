@@ -1,9 +1,0 @@
-use Rattle.std.proofs.Common.{◌≡◌, take}
-use Rattle.std.specs.List.{flat_map}
-use Rattle.mql_decls.specs.Maps.{meaning}
-use Rattle.mql_decls.specs.Things.{member_things}
-use Rattle.mql_decls.specs.Rules.{told_of}
-use Rattle.mql_decls.proofs.items.members_told.Given as goal
-
-abbrev pub invariant-loop-member : goal.invariant-loop-member
-invariant-loop-member l = l.told ≡ told_of (meaning l.names) (flat_map member_things (take l.member-index l.members))

@@ -1,8 +1,0 @@
-use Rattle.std.proofs.Common.{◌≡◌, ℕ, List, map, take}
-use Rattle.mql_decls.specs.Maps.{meaning}
-use Rattle.mql_decls.specs.Things.{variables_things, param_variable}
-use Rattle.mql_decls.specs.Rules.{told_of}
-use Rattle.mql_decls.proofs.items.params_told.Given as goal
-
-abbrev pub invariant-loop-param : goal.invariant-loop-param
-invariant-loop-param l = (locals : List (List ℕ)) → l.told ≡ told_of (meaning l.names) (variables_things locals (map param_variable (take l.param-index l.params)))

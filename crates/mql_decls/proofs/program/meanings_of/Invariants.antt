@@ -1,8 +1,0 @@
-use Rattle.std.proofs.Common.{take}
-use Rattle.std.specs.List.{flat_map}
-use Rattle.mql_decls.specs.Maps.{Means}
-use Rattle.mql_decls.specs.Meanings.{item_meanings}
-use Rattle.mql_decls.proofs.program.meanings_of.Given as goal
-
-abbrev pub invariant-loop-item : goal.invariant-loop-item
-invariant-loop-item l = Means l.names (flat_map item_meanings (take l.item-index l.items))

@@ -1,6 +1,0 @@
-use Rattle.std.proofs.Common.{◌≡◌, ◌++◌, map, take}
-use Rattle.mql_decls.specs.Things.{enumerator_named}
-use Rattle.mql_decls.proofs.program.with_enumerator_names.Given as goal
-
-abbrev pub invariant-loop-enumerator : goal.invariant-loop-enumerator
-invariant-loop-enumerator l = l.named ≡ l.fn.named ++ map (enumerator_named l.place) (take l.enumerator-index l.enumerators)

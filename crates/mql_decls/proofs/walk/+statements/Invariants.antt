@@ -1,8 +1,0 @@
-use Rattle.std.proofs.Common.{◌≡◌, ℕ, Bool, List, take}
-use Rattle.mql_decls.specs.Maps.{meaning}
-use Rattle.mql_decls.specs.Things.{list_things}
-use Rattle.mql_decls.specs.Rules.{told_of}
-use Rattle.mql_decls.proofs.walk.+statements.Given as goal
-
-abbrev pub invariant-parts_told-loop-s : goal.invariant-parts_told-loop-s
-invariant-parts_told-loop-s l = (shared : Bool) (locals : List (List ℕ)) → l.told ≡ told_of (meaning l.names) (list_things shared locals (take l.s-index l.parts))

@@ -1,9 +1,0 @@
-use Rattle.std.proofs.Common.{◌≡◌, take}
-use Rattle.std.specs.List.{flat_map}
-use Rattle.mql_decls.specs.Maps.{meaning}
-use Rattle.mql_decls.specs.Things.{value_things}
-use Rattle.mql_decls.specs.Rules.{told_of}
-use Rattle.mql_decls.proofs.walk.+values.Given as goal
-
-abbrev pub invariant-values_told-loop-v : goal.invariant-values_told-loop-v
-invariant-values_told-loop-v l = l.told ≡ told_of (meaning l.names) (flat_map value_things (take l.v-index l.values))

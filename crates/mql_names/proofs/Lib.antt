@@ -1,0 +1,4 @@
+pub mod Faults
+pub mod Scopes
+pub mod Joined
+pub mod MeantMore

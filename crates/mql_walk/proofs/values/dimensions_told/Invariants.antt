@@ -1,0 +1,9 @@
+use Rattle.std.proofs.Common.{◌≡◌, ℕ, Bool, true, List, [], ◌∷◌, ◌++◌, map, take}
+use Rattle.std.specs.List.{flat_map}
+use Rattle.mql_names.specs.Things.{variable_name, param_variable}
+use Rattle.mql_walk.specs.Things.{told_by, value_things, dimension_things, variables_things, list_things, all_behind, member_things, enumerator_things, item_things}
+use Rattle.mql_walk.specs.Things as thing
+use Rattle.mql_walk.proofs.values.dimensions_told.Given as goal
+
+abbrev pub invariant-loop-dimension : goal.invariant-loop-dimension
+invariant-loop-dimension g l = l.told ≡ told_by (g.J.Judge.breaks l.judge) (flat_map (dimension_things l.locals) (take l.dimension-index l.dimensions))
