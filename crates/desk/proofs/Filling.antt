@@ -50,7 +50,7 @@ out_is {X} hedging specs ps ps' q f r out out' rule h e n l =
     (k.0 ∙ ap (λ (x : List Event). x ++ fill_events f q) n, k.1)
 
 pub out_follows : (q : Quoted) (f : Fill) (out : List Event) → AreQuoted q.spec q.prices q.times → IsSound q.spec q.prices q.times q.events → length (deals q.events) < 50000 → IsFillable q f → out ≡ fill_events f q → MayFollow q.spec q.prices q.times q.events out
-out_follows q f out a s l h e = rw e (fill_follows q.spec q.prices q.times q.events f a s l h.may h.fresh)
+out_follows q f out a s l h e = rw e (fill_follows q.spec q.prices q.times q.events f a s l h.may h.order h.fresh h.alone)
 
 -- the rule goes on with the journal
 pub goes_on : (hedging hedging' : Bool) (specs specs' : List SymbolSpec) (ps ps' : List Position) (q q' : Quoted) (f : Fill) → IsRuleOf hedging specs ps q → hedging' ≡ hedging → specs' ≡ specs → ps' ≡ fold positions_after ps (fill_events f q) → q' ≡ with_more (fill_events f q) q → IsRuleOf hedging' specs' ps' q'

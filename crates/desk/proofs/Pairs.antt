@@ -42,6 +42,8 @@ by_entry spec prices times es d e m = record {
   types = (m.types.0, rw (redealt d e (item position_ticket d.position (open_positions es))) m.types.1);
   left = rw (redealt d e (item position_ticket d.position (open_positions es))) m.left;
   small = m.small;
+  alone = m.alone;
+  sole = λ h. rw (redealt d e (item position_ticket d.position (open_positions es))) (m.sole h);
 }
 
 common_most : (p q : Position) → common p q ≤ℤ p.volume
@@ -75,7 +77,7 @@ deal_may spec prices times es at p deal v a q s l e sv fv fa m =
     let o : same_side p.buy (not p.buy) ≡ false = other_side p.buy in
     let c : deal_on spec.specs (against at p deal v a) (Some p) ≡ closed spec.specs (against at p deal v a) p = rw o refl in
     let k : IsKept spec prices times (last_order es) (length (deals es)) p = subst (λ (x : Option Position). IfSome x (IsKept spec prices times (last_order es) (length (deals es)))) e (all_item (IsKept spec prices times (last_order es) (length (deals es))) position_ticket p.ticket (open_positions es) s.positions) in
-    let t : MayTrade spec prices times es (deal_on spec.specs (against at p deal v a) (Some p)) = trade_on spec prices times es (against at p deal v a) (Some p) q s l (against_may spec prices times (last_order es) (length (deals es)) at p deal v a k sv fv fa m (omega (arith, l))) (rw c e) in
+    let t : MayTrade spec prices times es (deal_on spec.specs (against at p deal v a) (Some p)) = trade_on spec prices times es (against at p deal v a) (Some p) q s l (against_may spec prices times (last_order es) (length (deals es)) at p deal v a k sv fv fa m (omega (arith, l))) (rw c e) (λ n. cc) (λ n. cc) (λ h n. cc) in
     by_entry spec prices times es (closed spec.specs (against at p deal v a) p) _ (subst (λ (d : Deal). MayTrade spec prices times es d) c t)
 
 kept_item : (spec : AccountSpec) (prices : PriceList) (times : List (Option ℤ)) (es : List Event) (t : ℕ) (p : Position) → IsSound spec prices times es → item position_ticket t (open_positions es) ≡ Some p → IsHeld p

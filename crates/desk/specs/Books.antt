@@ -41,6 +41,8 @@ pub record IsFillable (q : Quoted) (f : Fill) : Type 0 where
   pub taken : f.order ≤ last_order q.events + 1
   pub fresh : met q.spec.hedging (open_positions q.events) f ≡ None →
       item position_ticket f.order (open_positions q.events) ≡ None
+  pub alone : met q.spec.hedging (open_positions q.events) f ≡ None →
+      item order_ticket f.order (orders_in_force q.events) ≡ None
 
 -- a close-by that may be done: both positions are open and opposite, and its order has the next ticket
 pub record IsPairable (q : Quoted) (one other : ℕ) (at : Fill) : Type 0 where
@@ -58,6 +60,7 @@ pair_events one other at q =
 pub record IsPlaceable (q : Quoted) (o : Order) : Type 0 where
   pub standing : IsStanding q.spec q.prices (greater_number (last_order q.events) o.ticket) o
   pub fresh : item order_ticket o.ticket (orders_in_force q.events) ≡ None
+  pub apart : item position_ticket o.ticket (open_positions q.events) ≡ None
   pub few : length (orders_in_force q.events) < most_orders
   pub taken : o.ticket ≤ last_order q.events + 1
 

@@ -164,6 +164,12 @@ position_closed spec prices time_ms why events (Some p) =
     events_of_fill spec events
     (fill_of_closing (next_of events).deal time_ms (last_prices prices p.symbol) why p)
 
+-- the fill that closes a position that is open
+abbrev pub closing_fill : Quoted → ℤ → DealReason → Option Position → Option Fill
+closing_fill q time_ms why None = None
+closing_fill q time_ms why (Some p) =
+    Some (fill_of_closing (next_of q.events).deal time_ms (last_prices q.prices p.symbol) why p)
+
 -- the position, where it is on a side
 abbrev pub on_side : Bool → Option Position → Option Position
 on_side buy None = None
