@@ -1,9 +1,9 @@
 -- A journal that gains an event stays sound.
-use Rattle.std.proofs.Common.{◌≡◌, ◌∙◌, ℕ, suc, zero, ◌+◌, ◌*◌, ◌/◌, ◌^◌, ◌<◌, ◌≤◌, ◌++◌, append-nil, Bool, true, false, cond, List, [], ◌∷◌, length, take, drop, fold, slice_get, slice_index_or, Option, Some, None, ℤ, pos, ◌+ℤ◌, ◌-ℤ◌, ◌≤ℤ◌, ◌<ℤ◌, unsigned_abs, FitsSigned, refl, ap, sym, subst, arith, is_some}
-use Rattle.std.specs.Int.{w64, w128}
+use Rattle.std.proofs.Common.{◌≡◌, ◌∙◌, ℕ, ◌+◌, ◌*◌, ◌^◌, ◌≤◌, ◌++◌, append-nil, true, false, cond, List, [], ◌∷◌, length, take, slice_index_or, Option, Some, None, ℤ, pos, ◌+ℤ◌, unsigned_abs, FitsSigned, refl, ap, arith}
+use Rattle.std.specs.Int.{w128}
 use Rattle.std.specs.List.{All, cons_option}
 use Rattle.std.specs.Option.{option_map}
-use Rattle.std.specs.Prelude.{IfSome, MatchBool, ⊤}
+use Rattle.std.specs.Prelude.{IfSome}
 use Rattle.std.proofs.lemmas.Int.{ints, fits_signed_from_abs}
 use Rattle.std.proofs.lemmas.List.{length-append}
 use Rattle.std.proofs.lemmas.List.Sums.{fold-append}
@@ -11,22 +11,20 @@ use Rattle.std.proofs.lemmas.List.Elements.{All-append, All-cons, All-nil}
 use Rattle.account.specs.declared.account_spec.AccountSpec.{AccountSpec}
 use Rattle.account.specs.declared.deal.Deal.{Deal}
 use Rattle.account.specs.declared.order.Order.{Order}
-use Rattle.account.specs.declared.order.OrderKind.{OrderKind}
 use Rattle.account.specs.declared.position.Position.{Position}
 use Rattle.account.specs.declared.event.Event.{Event}
 use Rattle.account.specs.declared.event.Event.TheVariants.{Placed, Modified, Removed, Triggered, Added, Stops, Swap}
-use Rattle.account.specs.Deals.{deal_of, deals, trading_deals, net}
+use Rattle.account.specs.Deals.{deal_of, deals, trading_deals}
 use Rattle.account.specs.Journal.{deposit_deal}
-use Rattle.account.specs.Keyed.{item, put}
+use Rattle.account.specs.Keyed.{item}
 use Rattle.account.specs.Orders.{order_ticket, changed, triggered, triggered_kind, is_stop_limit, orders_after, orders_in_force}
-use Rattle.account.specs.Positions.{position_ticket, is_balance, after_deal, with_stops, with_swap, positions_after, open_positions}
-use Rattle.account.specs.Ranges.{IsAccount, IsHeld, IsWithin, MayDeal, KeepsTypes, IsEventOf}
-use Rattle.account.specs.StopOut.{PriceList, prices_at}
+use Rattle.account.specs.Positions.{position_ticket, with_stops, with_swap, positions_after, open_positions}
+use Rattle.account.specs.Ranges.{IsHeld, IsWithin, KeepsTypes, IsEventOf}
+use Rattle.account.specs.StopOut.{PriceList}
 use Rattle.account.proofs.Found.{all_put, all_item}
 use Rattle.account.proofs.Kept.{deals_more, open_more, trading_more, still_first}
-use Rattle.account.proofs.Running.{length-more}
 use Rattle.desk.specs.Tickets.{greater_number, last_after, last_order, order_of_event}
-use Rattle.desk.specs.Sound.{day_at, IsKept, IsStanding, IsSmall, IsSound, IsTidy, MayTrade, MayEnter, AreQuoted}
+use Rattle.desk.specs.Sound.{day_at, IsKept, IsStanding, IsSmall, IsSound, IsTidy, MayEnter, AreQuoted}
 use Rattle.desk.proofs.Days.{day_small}
 use Rattle.account.proofs.Keys.{item_key}
 use Rattle.account.proofs.Conserved.{after-deal-key, quiet-key}

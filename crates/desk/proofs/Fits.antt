@@ -1,18 +1,15 @@
 -- The events of a fill may be added one after another.
-use Rattle.std.proofs.Common.{◌≡◌, ◌∙◌, ℕ, suc, zero, ◌+◌, ◌*◌, ◌^◌, ◌<◌, ◌≤◌, ◌++◌, Bool, true, false, cond, List, [], ◌∷◌, length, eqb, find, rules, Option, Some, None, ℤ, pos, ◌+ℤ◌, ◌-ℤ◌, ◌≤ℤ◌, ◌<ℤ◌, int_lt, unsigned_abs, FitsSigned, refl, ap, sym, subst, arith, is_some, ◌&&◌}
-use Rattle.std.specs.Int.{w64, w128}
-use Rattle.std.specs.List.{All}
-use Rattle.std.specs.Prelude.{IfSome, MatchBool, ⊤}
+use Rattle.std.proofs.Common.{◌≡◌, ◌∙◌, ℕ, ◌+◌, ◌^◌, ◌<◌, ◌≤◌, Bool, true, false, cond, List, [], ◌∷◌, length, eqb, find, rules, Option, Some, None, ℤ, pos, ◌≤ℤ◌, ◌<ℤ◌, int_lt, unsigned_abs, refl, ap, sym, subst, arith, is_some, ◌&&◌}
+use Rattle.std.specs.Prelude.{IfSome}
 use Rattle.std.specs.Ordering.{int_eq}
 use Rattle.std.proofs.lemmas.Int.{ints}
-use Rattle.market_types.specs.Ranges.{IsSpec}
 use Rattle.market_types.specs.declared.symbol_spec.SymbolSpec.{SymbolSpec}
 use Rattle.account.specs.declared.account_spec.AccountSpec.{AccountSpec}
 use Rattle.account.specs.declared.deal.Deal.{Deal}
 use Rattle.account.specs.declared.deal.DealEntry.TheVariants as entry
 use Rattle.account.specs.declared.position.Position.{Position}
 use Rattle.account.specs.declared.event.Event.{Event}
-use Rattle.account.specs.declared.event.Event.TheVariants.{Added, Stops}
+use Rattle.account.specs.declared.event.Event.TheVariants.{Stops}
 use Rattle.account.specs.Deals.{deals}
 use Rattle.account.specs.declared.order.Order.{Order}
 use Rattle.account.specs.Keyed.{item}
@@ -27,7 +24,7 @@ use Rattle.positions.specs.declared.fill.Levels.{Levels}
 use Rattle.positions.specs.Fills.{kind_of, plain, closed, deal_on, met, levels_of, stops_event, events_on, MayAdd}
 use Rattle.positions.proofs.Filling.{met_item, deal_kind, not_balance, may_deal}
 use Rattle.desk.specs.Tickets.{greater_number, last_order}
-use Rattle.desk.specs.Sound.{day_at, IsKept, IsSound, AreApart, IsSole, IsModest, MayFill, MayTrade, MayFollow, AreQuoted}
+use Rattle.desk.specs.Sound.{IsKept, IsSound, AreApart, IsSole, MayFill, MayTrade, MayFollow, AreQuoted}
 use Rattle.desk.proofs.Days.{day_small}
 use Rattle.desk.proofs.Entered.{greater_left}
 use Rattle.positions.proofs.Nets.{IsPart, swap_part, deal_small}

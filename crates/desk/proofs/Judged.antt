@@ -1,8 +1,7 @@
 -- What judgement accepts may be done.
-use Rattle.std.proofs.Common.{◌≡◌, ◌∙◌, ℕ, ◌+◌, ◌<◌, ◌≤◌, Bool, true, false, not, cond, eqb, List, [], ◌∷◌, length, ◌++◌, slice_get, Option, Some, None, Result, Ok, Err, ℤ, pos, refl, ap, sym, subst, arith, rules, is_some, ◌&&◌}
-use Rattle.std.specs.Prelude.{is_ok, ⊤}
+use Rattle.std.proofs.Common.{◌≡◌, ℕ, ◌+◌, ◌≤◌, Bool, true, List, length, slice_get, Option, Some, None, ℤ, pos, refl, subst, arith, rules, is_some}
+use Rattle.std.specs.Prelude.{is_ok}
 use Rattle.market_types.specs.declared.symbol_spec.SymbolSpec.{SymbolSpec}
-use Rattle.account.specs.declared.account_spec.AccountSpec.{AccountSpec}
 use Rattle.account.specs.declared.order.Order.{Order}
 use Rattle.account.specs.declared.order.OrderKind.{OrderKind}
 use Rattle.account.specs.declared.order.OrderTime.{OrderTime}
@@ -11,14 +10,13 @@ use Rattle.account.specs.Deals.{deals}
 use Rattle.account.specs.Keyed.{item}
 use Rattle.account.specs.Orders.{order_ticket, orders_in_force}
 use Rattle.account.specs.Positions.{position_ticket, open_positions}
-use Rattle.account.specs.StopOut.{PriceList, prices_at}
+use Rattle.account.specs.StopOut.{prices_at}
 use Rattle.positions.specs.declared.fill.Fill.{Fill}
-use Rattle.positions.specs.CloseBy.{are_opposite, closed_both, closed_by}
+use Rattle.positions.specs.CloseBy.{closed_both}
 use Rattle.judgement.specs.declared.act.Act.{Act}
 use Rattle.judgement.specs.declared.act.Act.TheVariants as act
 use Rattle.judgement.specs.declared.request.Request.{Request}
 use Rattle.judgement.specs.declared.return_code.ReturnCode.{ReturnCode}
-use Rattle.judgement.specs.declared.return_code.ReturnCode.TheVariants as code
 use Rattle.judgement.specs.declared.words.Action.{Action}
 use Rattle.judgement.specs.declared.words.Action.TheVariants as action
 use Rattle.judgement.specs.Acts.{fill_of, placed_order, changed_order, deal_act, pending_act, modify_act, sltp_act, close_by_act, act_by}
@@ -29,7 +27,7 @@ use Rattle.judgement.specs.Rules.{second_of}
 use Rattle.judgement.specs.Tables.{first_failing, deal_rules, pending_rules, modify_rules, close_by_rules, oppose}
 use Rattle.desk.specs.State.{Quoted, journal_of}
 use Rattle.desk.specs.Sound.{IsSound, AreQuoted}
-use Rattle.desk.specs.Books.{IsFillable, IsPlaceable, IsChangeable, IsPairable}
+use Rattle.desk.specs.Books.{IsPairable}
 use Rattle.desk.specs.Requests.{IsReady}
 use Rattle.desk.specs.Requests as own
 use Rattle.desk.specs.Tickets.{last_order, next_of}

@@ -1,8 +1,7 @@
 -- A request takes one order ticket at most.
-use Rattle.std.proofs.Common.{◌≡◌, ◌∙◌, ℕ, ◌+◌, ◌<◌, ◌≤◌, ◌++◌, append-nil, Bool, true, false, cond, List, [], ◌∷◌, length, fold, Option, Some, None, Result, Ok, Err, ℤ, refl, ap, sym, subst, arith, ◌&&◌}
+use Rattle.std.proofs.Common.{◌≡◌, ℕ, ◌+◌, ◌≤◌, ◌++◌, append-nil, true, false, cond, [], ◌∷◌, Option, Some, None, Ok, Err, ℤ, refl, ap, arith}
 use Rattle.std.specs.Prelude.{is_ok}
 use Rattle.std.proofs.lemmas.List.Sums.{fold-append}
-use Rattle.market_types.specs.declared.symbol_spec.SymbolSpec.{SymbolSpec}
 use Rattle.account.specs.declared.position.Position.{Position}
 use Rattle.account.specs.declared.event.Event.{Event}
 use Rattle.account.specs.declared.event.Event.TheVariants.{Placed, Modified, Removed, Stops}
@@ -11,7 +10,7 @@ use Rattle.positions.specs.declared.fill.Fill.{Fill}
 use Rattle.positions.specs.declared.fill.FillFault.TheVariants as fault
 use Rattle.account.specs.Keyed.{item}
 use Rattle.account.specs.Positions.{position_ticket}
-use Rattle.positions.specs.CloseBy.{are_opposite, first_deal, second_deal, both_events, closed_both, closed_by}
+use Rattle.positions.specs.CloseBy.{are_opposite, first_deal, second_deal, both_events, closed_both}
 use Rattle.judgement.specs.declared.act.Act.{Act}
 use Rattle.judgement.specs.declared.act.Act.TheVariants as act
 use Rattle.judgement.specs.declared.request.Request.{Request}
@@ -21,7 +20,7 @@ use Rattle.desk.specs.Requests.{Outcome, dealt_outcome, outcome_of, outcome_by, 
 use Rattle.desk.specs.Sound.{IsSound, AreQuoted}
 use Rattle.desk.specs.State.{Quoted}
 use Rattle.desk.specs.Tickets.{greater_number, last_after, last_order, order_of_event}
-use Rattle.desk.proofs.Entered.{last_more, greater_none}
+use Rattle.desk.proofs.Entered.{last_more}
 use Rattle.desk.proofs.Judged.{ready}
 use Rattle.desk.proofs.Outcomes.{deal_outcome}
 use Rattle.desk.proofs.Stepping.{filled_last}

@@ -1,19 +1,16 @@
 -- What is answered to a request that is judged.
-use Rattle.std.proofs.Common.{◌≡◌, ◌∙◌, ℕ, ◌+◌, ◌<◌, ◌≤◌, ◌++◌, append-nil, Bool, true, false, List, [], ◌∷◌, length, Option, Some, None, Result, Ok, Err, ℤ, refl, ap, sym, subst, arith}
+use Rattle.std.proofs.Common.{◌≡◌, ◌∙◌, ◌≤◌, append-nil, true, List, [], ◌∷◌, Option, Some, None, Result, Ok, ℤ, ap, sym, subst, arith}
 use Rattle.account.specs.declared.account_spec.AccountSpec.{AccountSpec}
 use Rattle.account.specs.declared.event.Event.{Event}
 use Rattle.account.specs.declared.event.Event.TheVariants.{Added}
-use Rattle.account.specs.Deals.{deals}
 use Rattle.account.specs.Journal.{deposit_deal}
 use Rattle.account.specs.Positions.{open_positions}
 use Rattle.judgement.specs.declared.act.Act.{Act}
-use Rattle.judgement.specs.declared.act.Act.TheVariants as act
 use Rattle.judgement.specs.declared.request.Answer.{Answer}
 use Rattle.judgement.specs.declared.request.Request.{Request}
 use Rattle.judgement.specs.declared.return_code.ReturnCode.{ReturnCode}
-use Rattle.judgement.specs.declared.return_code.ReturnCode.TheVariants as code
 use Rattle.desk.specs.declared.fault.DeskFault.{DeskFault}
-use Rattle.desk.specs.State.{Quoted, have_room}
+use Rattle.desk.specs.State.{have_room}
 use Rattle.desk.specs.Books.{Kept, gained}
 use Rattle.desk.specs.Requests.{Outcome, answer_of, refused, todo_of, code_for, outcome_of, outcome_by, judged, Answers}
 use Rattle.desk.specs.Sound.{IsSound}

@@ -1,10 +1,9 @@
 -- What judgement accepts may be done: deals.
-use Rattle.std.proofs.Common.{◌≡◌, ◌∙◌, ℕ, suc, zero, ◌+◌, ◌*◌, ◌^◌, ◌<◌, ◌≤◌, ◌++◌, Bool, true, false, not, cond, eqb, List, [], ◌∷◌, length, find, slice_get, Option, Some, None, ℤ, pos, ◌+ℤ◌, ◌≤ℤ◌, ◌<ℤ◌, int_lt, FitsSigned, refl, ap, sym, subst, arith, rules, is_some, ◌&&◌, ◌||◌}
+use Rattle.std.proofs.Common.{◌≡◌, ℕ, suc, zero, ◌+◌, ◌^◌, ◌<◌, Bool, true, false, not, cond, eqb, List, [], ◌∷◌, length, find, slice_get, Option, Some, None, ℤ, pos, ◌≤ℤ◌, ◌<ℤ◌, int_lt, FitsSigned, refl, ap, subst, arith, rules, is_some, ◌||◌}
 use Rattle.std.specs.Int.{w64}
 use Rattle.std.specs.List.{All}
-use Rattle.std.specs.Prelude.{IfSome, int_le, unwrap_or, ⊤}
+use Rattle.std.specs.Prelude.{IfSome, int_le, ⊤}
 use Rattle.std.proofs.lemmas.Int.{ints}
-use Rattle.std.proofs.lemmas.Option.{slice_get_within}
 use Rattle.std.proofs.lemmas.List.Elements.{All-tail}
 use Rattle.market_types.specs.Ranges.{IsSpec}
 use Rattle.market_types.specs.declared.symbol_spec.SymbolSpec.{SymbolSpec}
@@ -17,15 +16,14 @@ use Rattle.account.specs.Orders.{order_ticket, orders_in_force}
 use Rattle.account.specs.Positions.{position_ticket, same_side, open_positions}
 use Rattle.account.specs.StopOut.{PriceList, prices_at, closing_price}
 use Rattle.positions.specs.declared.fill.Fill.{Fill}
-use Rattle.positions.specs.declared.fill.FillFault.{FillFault}
-use Rattle.positions.specs.Fills.{named, met, refusal, named_refusal, closing_refusal}
+use Rattle.positions.specs.Fills.{named, met, refusal, named_refusal}
 use Rattle.judgement.specs.declared.request.Request.{Request}
 use Rattle.judgement.specs.declared.return_code.ReturnCode.{ReturnCode}
 use Rattle.judgement.specs.Acts.{fill_of}
 use Rattle.judgement.specs.Rules.{is_volume}
 use Rattle.judgement.specs.Tables.{first_failing, deal_rules, has_volume, names_open, names_other_side, names_enough}
 use Rattle.desk.specs.State.{Quoted}
-use Rattle.desk.specs.Sound.{IsKept, IsStanding, IsSound, IsModest, MayFill, AreQuoted, ArePrices}
+use Rattle.desk.specs.Sound.{IsKept, IsStanding, IsSound, IsModest, AreQuoted, ArePrices}
 use Rattle.desk.specs.Books.{IsFillable}
 use Rattle.desk.specs.Tickets.{last_order}
 

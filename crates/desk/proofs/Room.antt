@@ -1,19 +1,14 @@
 -- There is room for one more deal, and what the rule of money asks for.
-use Rattle.std.proofs.Common.{◌≡◌, ℕ, ◌+◌, ◌*◌, ◌^◌, ◌<◌, ◌≤◌, Bool, List, length, Option, None, ℤ, pos, ◌≤ℤ◌, unsigned_abs, refl, arith, slice_index_or}
-use Rattle.std.specs.List.{All}
+use Rattle.std.proofs.Common.{◌≡◌, ℕ, ◌+◌, ◌^◌, ◌≤◌, List, length, Option, None, ℤ, unsigned_abs, arith, slice_index_or}
 use Rattle.std.proofs.lemmas.Int.{ints}
 use Rattle.account.specs.declared.account_spec.AccountSpec.{AccountSpec}
 use Rattle.account.specs.declared.position.Position.{Position}
-use Rattle.account.specs.declared.event.Event.{Event}
 use Rattle.account.specs.Deals.{deals, balance}
 use Rattle.account.specs.Positions.{position_ticket, open_positions}
 use Rattle.account.specs.StopOut.{PriceList}
-use Rattle.positions.specs.declared.fill.Fill.{Fill}
-use Rattle.positions.specs.Fills.{IsFill}
 use Rattle.positions.specs.Money.{IsRoomy, HasRoom}
 use Rattle.desk.specs.State.{Quoted, journal_of}
 use Rattle.desk.specs.Sound.{IsKept, IsSound, AreQuoted}
-use Rattle.desk.specs.Books.{IsFillable}
 use Rattle.desk.specs.Tickets.{last_order}
 use Rattle.desk.proofs.Days.{day_small}
 use Rattle.account.specs.Journal.{Journal}

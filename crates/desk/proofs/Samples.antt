@@ -1,5 +1,5 @@
 -- Samples of the definitions, worked out by hand.
-use Rattle.std.proofs.Common.{refl, ◌≡◌, true, false, Bool, ℕ, ℤ, pos, neg_ℤ, [], ◌∷◌, List, Option, Some, None}
+use Rattle.std.proofs.Common.{refl, ◌≡◌, true, false, ℕ, ℤ, pos, neg_ℤ, [], ◌∷◌, List, Some, None}
 use Rattle.fx8.specs.Rounding.{rounded}
 use Rattle.market_types.specs.declared.quote.Quote.{Quote}
 use Rattle.market_types.specs.declared.symbol_spec.SymbolSpec.{SymbolSpec}
@@ -8,28 +8,24 @@ use Rattle.account.specs.declared.deal.Deal.{Deal}
 use Rattle.account.specs.declared.deal.DealKind.TheVariants as kind
 use Rattle.account.specs.declared.deal.DealEntry.TheVariants as entry
 use Rattle.account.specs.declared.deal.DealReason.TheVariants as reason
-use Rattle.account.specs.declared.order.Order.{Order}
 use Rattle.account.specs.declared.order.OrderKind.{OrderKind}
 use Rattle.account.specs.declared.order.OrderKind.TheVariants as order
 use Rattle.account.specs.declared.order.OrderTime.TheVariants as time
 use Rattle.account.specs.declared.event.Event.{Event}
 use Rattle.account.specs.declared.event.Event.TheVariants as event
-use Rattle.account.specs.declared.event.RemovalCause.TheVariants as cause
 use Rattle.account.specs.Deals.{balance, net, deals}
 use Rattle.account.specs.Firing.{fires, is_over, stop_reason, stops}
 use Rattle.account.specs.Journal.{deposit_deal}
-use Rattle.account.specs.Money.{profit, margin, commission, weighted_price, portion}
-use Rattle.account.specs.Orders.{orders_in_force}
+use Rattle.account.specs.Money.{profit, margin, commission, weighted_price}
 use Rattle.account.specs.Positions.{open_positions}
 use Rattle.account.specs.Statistics.{greater}
 use Rattle.account.specs.StopOut.{floating, position_margin, is_due}
-use Rattle.judgement.specs.Rules.{second_of, day_begin, day_end}
+use Rattle.judgement.specs.Rules.{second_of}
 use Rattle.positions.specs.Fills.{given_or}
-use Rattle.desk.specs.Effect.{Run, effect, swaps, closing}
+use Rattle.desk.specs.Effect.{effect, swaps}
 use Rattle.positions.specs.Money.{has_money}
 use Rattle.desk.specs.Nights.{night_after, nights_between, swap_amount}
 use Rattle.desk.specs.State.{Quoted, have_room}
-use Rattle.desk.specs.Tickets.{greater_number}
 
 -- from Wednesday 2020.01.01 to the next day three nights count, from Friday to Monday one
 triple : nights_between 3 (Some (pos 1577836800000)) (pos 1577923200000) ≡ 3

@@ -1,19 +1,17 @@
 -- Orders and positions stay apart, and under netting each symbol has one position at most.
-use Rattle.std.proofs.Common.{◌≡◌, ◌∙◌, ℕ, Bool, true, false, cond, eqb, List, [], ◌∷◌, Option, Some, None, ℤ, pos, refl, ap, sym, subst, arith, rules, is_some}
+use Rattle.std.proofs.Common.{◌≡◌, ◌∙◌, ℕ, Bool, true, false, cond, eqb, List, [], ◌∷◌, Option, Some, None, pos, refl, ap, sym, subst, arith, rules, is_some}
 use Rattle.std.specs.Option.{option_map}
-use Rattle.std.specs.Prelude.{IfSome, ⊤}
 use Rattle.account.specs.declared.account_spec.AccountSpec.{AccountSpec}
 use Rattle.account.specs.declared.event.Event.{Event}
 use Rattle.account.specs.declared.event.Event.TheVariants.{Added}
 use Rattle.account.specs.Journal.{deposit_deal}
-use Rattle.account.specs.declared.deal.Deal.{Deal}
 use Rattle.account.specs.declared.order.Order.{Order}
 use Rattle.account.specs.declared.position.Position.{Position}
 use Rattle.account.specs.Keyed.{item, put, KeyIs}
-use Rattle.account.specs.Orders.{orders_in_force, order_ticket, changed, triggered, is_stop_limit, triggered_kind}
-use Rattle.account.specs.Positions.{open_positions, position_ticket, after_deal, dealt, added, reduced, reversed, opened, same_side, is_buy}
+use Rattle.account.specs.Orders.{orders_in_force, order_ticket, triggered, is_stop_limit, triggered_kind}
+use Rattle.account.specs.Positions.{open_positions, position_ticket}
 use Rattle.account.proofs.Keys.{item-put, item-put-other, item_key}
-use Rattle.account.proofs.Conserved.{after-deal-key, quiet-key}
+use Rattle.account.proofs.Conserved.{quiet-key}
 use Rattle.desk.specs.Sound.{AreApart, IsUnique, IsSole, IsTidy}
 
 -- what stands at a ticket after a change at another, or at the same

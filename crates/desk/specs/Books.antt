@@ -1,5 +1,5 @@
 -- A ledger, its positions and its orders in step (own), and what each act asks for.
-use Rattle.std.specs.Prelude.{◌≡◌, ℕ, ◌+◌, ◌<◌, ◌≤◌, ◌^◌, ◌++◌, Bool, true, false, List, length, Option, None, Result, Ok, Err, is_ok, is_some}
+use Rattle.std.specs.Prelude.{◌≡◌, ℕ, ◌+◌, ◌<◌, ◌≤◌, ◌++◌, Bool, true, List, length, None, is_ok}
 use Rattle.market_types.specs.declared.symbol_spec.SymbolSpec.{SymbolSpec}
 use Rattle.account.specs.declared.order.Order.{Order}
 use Rattle.account.specs.declared.position.Position.{Position}
@@ -10,7 +10,6 @@ use Rattle.account.specs.Orders.{order_ticket, orders_in_force}
 use Rattle.account.specs.Positions.{position_ticket, open_positions}
 use Rattle.order_book.specs.Book.{most_orders, modify_fault}
 use Rattle.positions.specs.declared.fill.Fill.{Fill}
-use Rattle.positions.specs.declared.fill.FillFault.{FillFault}
 use Rattle.positions.specs.Fills.{met, events_on, refusal}
 use Rattle.positions.specs.CloseBy.{closed_by}
 use Rattle.positions.specs.Money.{added_by}

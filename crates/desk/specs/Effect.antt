@@ -1,6 +1,6 @@
 -- What one loud quote does to an account before the expert sees it, and what closing does at the end
 -- (MetaTrader 5 Help, Types of Orders, Stop Loss and Take Profit, Stop Out; the order of work is our own).
-use Rattle.std.specs.Prelude.{ℕ, zero, suc, ◌+◌, ◌++◌, Bool, true, false, not, ◌==◌, nat_lt, if◌then◌else◌, List, [], ◌∷◌, length, map, take_while, drop, slice_get, slice_set, Option, Some, None, unwrap_or, ℤ, pos, int_lt}
+use Rattle.std.specs.Prelude.{ℕ, zero, suc, ◌++◌, Bool, true, false, not, ◌==◌, nat_lt, if◌then◌else◌, List, [], ◌∷◌, length, map, take_while, drop, slice_get, slice_set, Option, Some, None, unwrap_or, ℤ, pos}
 use Rattle.std.specs.List.{fold, filter_map}
 use Rattle.std.specs.Option.{option_map, option_map_or}
 use Rattle.market_types.specs.declared.quote.Quote.{Quote}
@@ -13,7 +13,6 @@ use Rattle.account.specs.declared.position.Position.{Position}
 use Rattle.account.specs.declared.event.Event.{Event}
 use Rattle.account.specs.declared.event.Event.TheVariants as event
 use Rattle.account.specs.declared.event.RemovalCause.TheVariants as cause
-use Rattle.account.specs.Deals.{deals}
 use Rattle.account.specs.Firing.{fired_orders, expired_orders, stop_reason}
 use Rattle.account.specs.Keyed.{item}
 use Rattle.account.specs.Orders.{order_ticket, is_stop_limit, orders_in_force}

@@ -1,6 +1,6 @@
 -- What is answered to a request and which events it adds (MQL5 Reference, OrderSend, Trade Request Structure,
 -- Structure of a Trade Request Result).
-use Rattle.std.specs.Prelude.{ℕ, ◌≡◌, ◌+◌, ◌++◌, ◌<◌, ◌≤◌, Bool, true, false, List, [], ◌∷◌, slice_get, ⊤, Option, Some, None, Result, Ok, Err, ℤ, pos}
+use Rattle.std.specs.Prelude.{ℕ, ◌≡◌, ◌+◌, ◌<◌, ◌≤◌, true, false, List, [], ◌∷◌, slice_get, ⊤, Option, Some, None, Result, Ok, Err, ℤ, pos}
 use Rattle.account.specs.declared.account_spec.AccountSpec.{AccountSpec}
 use Rattle.account.specs.declared.deal.Deal.{Deal}
 use Rattle.account.specs.declared.event.Event.{Event}

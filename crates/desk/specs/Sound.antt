@@ -10,14 +10,14 @@ use Rattle.account.specs.declared.position.Position.{Position}
 use Rattle.account.specs.declared.event.Event.{Event}
 use Rattle.account.specs.declared.event.Event.TheVariants as event
 use Rattle.account.specs.Deals.{deals, trading_deals, net}
-use Rattle.account.specs.Journal.{Journal, deposit_deal}
+use Rattle.account.specs.Journal.{deposit_deal}
 use Rattle.account.specs.Keyed.{item}
 use Rattle.account.specs.Orders.{order_ticket, orders_in_force}
 use Rattle.account.specs.Positions.{position_ticket, same_side, is_balance, after_deal, open_positions}
 use Rattle.account.specs.Ranges.{IsAccount, IsHeld, MayDeal}
 use Rattle.account.specs.StopOut.{PriceList, prices_at}
 use Rattle.positions.specs.declared.fill.Fill.{Fill}
-use Rattle.desk.specs.State.{most_deals, most_requests}
+use Rattle.desk.specs.State.{most_deals}
 use Rattle.desk.specs.Tickets.{greater_number, last_order}
 
 -- the day of a time in milliseconds, counted from 1970-01-01
