@@ -1,44 +1,31 @@
 -- What judgement accepts may be done: orders.
-use Rattle.std.proofs.Common.{◌≡◌, ◌∙◌, ℕ, suc, zero, ◌+◌, ◌*◌, ◌^◌, ◌<◌, ◌≤◌, Bool, true, false, not, cond, eqb, List, [], ◌∷◌, length, slice_get, Option, Some, None, ℤ, pos, refl, ap, sym, subst, arith, rules, is_some, ◌&&◌}
-use Rattle.std.specs.List.{All}
+use Rattle.std.proofs.Common.{◌≡◌, ◌∙◌, ℕ, ◌+◌, Bool, true, false, not, cond, eqb, List, length, slice_get, Option, Some, None, ℤ, refl, subst, arith, rules}
 use Rattle.std.specs.Prelude.{IfSome, nat_lt}
-use Rattle.std.specs.Ordering.{int_eq}
-use Rattle.std.proofs.lemmas.Int.{ints}
-use Rattle.std.proofs.lemmas.List.Elements.{All-tail}
 use Rattle.market_types.specs.declared.symbol_spec.SymbolSpec.{SymbolSpec}
-use Rattle.account.specs.declared.account_spec.AccountSpec.{AccountSpec}
 use Rattle.account.specs.declared.order.Order.{Order}
 use Rattle.account.specs.declared.order.OrderKind.{OrderKind}
 use Rattle.account.specs.declared.order.OrderTime.{OrderTime}
 use Rattle.account.specs.declared.order.OrderTime.TheVariants as time
 use Rattle.account.specs.Keyed.{item, KeyIs}
 use Rattle.account.specs.Orders.{order_ticket, orders_in_force}
-use Rattle.account.specs.StopOut.{PriceList, prices_at}
+use Rattle.account.specs.Deals.{deals}
+use Rattle.account.specs.Positions.{open_positions}
+use Rattle.account.specs.StopOut.{prices_at}
 use Rattle.account.proofs.Found.{all_item}
 use Rattle.account.proofs.Keys.{item_key}
-use Rattle.order_book.specs.Book.{same_terms, time_number, change_fault, modify_fault}
-use Rattle.order_book.specs.declared.book_fault.BookFault.{BookFault}
-use Rattle.order_book.specs.declared.book_fault.BookFault.TheVariants as fault
+use Rattle.order_book.specs.Book.{same_terms, time_number}
 use Rattle.judgement.specs.declared.request.Request.{Request}
 use Rattle.judgement.specs.declared.return_code.ReturnCode.{ReturnCode}
 use Rattle.judgement.specs.Acts.{placed_order, changed_order}
-use Rattle.judgement.specs.Numbers.{time_of, pending_kind_of}
+use Rattle.judgement.specs.Numbers.{time_of}
 use Rattle.judgement.specs.Rules.{second_of}
-use Rattle.judgement.specs.Tables.{first_failing, pending_rules, modify_rules, has_volume, has_terms, changes_order, expires_of}
+use Rattle.judgement.specs.Tables.{first_failing, pending_rules, modify_rules, has_terms, changes_order}
 use Rattle.desk.specs.State.{Quoted}
 use Rattle.desk.specs.Sound.{IsStanding, IsSound, AreQuoted}
 use Rattle.desk.specs.Books.{IsPlaceable, IsChangeable}
-use Rattle.desk.specs.Tickets.{greater_number, last_order}
+use Rattle.desk.specs.Tickets.{last_order}
 use Rattle.desk.proofs.Fits.{greater_right}
-use Rattle.desk.proofs.Ready.{AllHold, all_hold, IsDealt, symbol_there, volume_of}
-
--- no order has a ticket past the last
-fresh_order : (spec : AccountSpec) (prices : PriceList) (last t : ℕ) (os : List Order) → last < t → All (IsStanding spec prices last) os → item order_ticket t os ≡ None
-fresh_order spec prices last t [] l h = refl
-fresh_order spec prices last t (o ∷ os) l h =
-    let k : IsStanding spec prices last o = h zero o (omega arith) in
-    let e : eqb o.ticket t ≡ false = grind (arith, k.ticket, l) in
-    rw e (fresh_order spec prices last t os l (All-tail (IsStanding spec prices last) o os h))
+use Rattle.desk.proofs.Ready.{fresh_item, fresh_order, AllHold, all_hold, IsDealt, symbol_there, volume_of}
 
 -- an order that is accepted may be placed
 pub place_ready : (q : Quoted) (time_ms : ℤ) (place : ℕ) (kind : OrderKind) (t : OrderTime) (r : Request) → AreQuoted q.spec q.prices q.times → IsSound q.spec q.prices q.times q.events → first_failing (pending_rules (slice_get q.spec.specs place) (prices_at q.prices place) (length (orders_in_force q.events)) (second_of time_ms) r) ≡ None → IsPlaceable q (placed_order (last_order q.events + 1) time_ms place kind t r)
@@ -55,6 +42,7 @@ place_ready q time_ms place kind t r a s h =
         ticket = greater_right (last_order q.events) (last_order q.events + 1);
       };
       fresh = fresh_order q.spec q.prices (last_order q.events) (last_order q.events + 1) (orders_in_force q.events) (omega arith) s.orders;
+      apart = fresh_item q.spec q.prices q.times (last_order q.events) (length (deals q.events)) (last_order q.events + 1) (open_positions q.events) (omega arith) s.positions;
       taken = omega arith;
       few = let n : nat_lt (length (orders_in_force q.events)) 1000 ≡ true = hold.1.1.1.1.1.1.1.1.0 in grind arith;
     }

@@ -1,11 +1,11 @@
 -- Days are small numbers.
-use Rattle.std.proofs.Common.{◌≡◌, ℕ, ◌+◌, ◌*◌, ◌/◌, ◌^◌, ◌<◌, ◌≤◌, suc, zero, List, [], ◌∷◌, length, slice_get, Option, Some, None, ℤ, unsigned_abs, refl, arith}
+use Rattle.std.proofs.Common.{ℕ, ◌/◌, ◌^◌, ◌≤◌, suc, zero, List, [], ◌∷◌, slice_get, Option, Some, None, ℤ, unsigned_abs, arith}
 use Rattle.std.specs.List.{All}
 use Rattle.std.specs.Prelude.{IfSome}
 use Rattle.std.proofs.lemmas.Int.{ints}
 use Rattle.std.proofs.lemmas.List.Elements.{All-tail}
 use Rattle.market_types.specs.Ordered.{IsMoment}
-use Rattle.desk.specs.Sound.{day_of, day_of_quote, day_at}
+use Rattle.desk.specs.Sound.{day_of_quote, day_at}
 
 moment_small : (t : ℤ) → IsMoment t → unsigned_abs t / 86400000 ≤ 2 ^ 19
 moment_small t m = omega (arith, ints, m.from, m.to)

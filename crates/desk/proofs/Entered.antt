@@ -1,9 +1,9 @@
 -- A journal that gains an event stays sound.
-use Rattle.std.proofs.Common.{◌≡◌, ◌∙◌, ℕ, suc, zero, ◌+◌, ◌*◌, ◌/◌, ◌^◌, ◌<◌, ◌≤◌, ◌++◌, append-nil, Bool, true, false, cond, List, [], ◌∷◌, length, take, drop, fold, slice_get, slice_index_or, Option, Some, None, ℤ, pos, ◌+ℤ◌, ◌-ℤ◌, ◌≤ℤ◌, ◌<ℤ◌, unsigned_abs, FitsSigned, refl, ap, sym, subst, arith, is_some}
-use Rattle.std.specs.Int.{w64, w128}
+use Rattle.std.proofs.Common.{◌≡◌, ◌∙◌, ℕ, ◌+◌, ◌*◌, ◌^◌, ◌≤◌, ◌++◌, append-nil, true, false, cond, List, [], ◌∷◌, length, take, slice_index_or, Option, Some, None, ℤ, pos, ◌+ℤ◌, unsigned_abs, FitsSigned, refl, ap, arith}
+use Rattle.std.specs.Int.{w128}
 use Rattle.std.specs.List.{All, cons_option}
 use Rattle.std.specs.Option.{option_map}
-use Rattle.std.specs.Prelude.{IfSome, MatchBool, ⊤}
+use Rattle.std.specs.Prelude.{IfSome}
 use Rattle.std.proofs.lemmas.Int.{ints, fits_signed_from_abs}
 use Rattle.std.proofs.lemmas.List.{length-append}
 use Rattle.std.proofs.lemmas.List.Sums.{fold-append}
@@ -11,24 +11,25 @@ use Rattle.std.proofs.lemmas.List.Elements.{All-append, All-cons, All-nil}
 use Rattle.account.specs.declared.account_spec.AccountSpec.{AccountSpec}
 use Rattle.account.specs.declared.deal.Deal.{Deal}
 use Rattle.account.specs.declared.order.Order.{Order}
-use Rattle.account.specs.declared.order.OrderKind.{OrderKind}
 use Rattle.account.specs.declared.position.Position.{Position}
 use Rattle.account.specs.declared.event.Event.{Event}
 use Rattle.account.specs.declared.event.Event.TheVariants.{Placed, Modified, Removed, Triggered, Added, Stops, Swap}
-use Rattle.account.specs.Deals.{deal_of, deals, trading_deals, net}
+use Rattle.account.specs.Deals.{deal_of, deals, trading_deals}
 use Rattle.account.specs.Journal.{deposit_deal}
-use Rattle.account.specs.Keyed.{item, put}
+use Rattle.account.specs.Keyed.{item}
 use Rattle.account.specs.Orders.{order_ticket, changed, triggered, triggered_kind, is_stop_limit, orders_after, orders_in_force}
-use Rattle.account.specs.Positions.{position_ticket, is_balance, after_deal, with_stops, with_swap, positions_after, open_positions}
-use Rattle.account.specs.Ranges.{IsAccount, IsHeld, IsWithin, MayDeal, KeepsTypes, IsEventOf}
-use Rattle.account.specs.StopOut.{PriceList, prices_at}
+use Rattle.account.specs.Positions.{position_ticket, with_stops, with_swap, positions_after, open_positions}
+use Rattle.account.specs.Ranges.{IsHeld, IsWithin, KeepsTypes, IsEventOf}
+use Rattle.account.specs.StopOut.{PriceList}
 use Rattle.account.proofs.Found.{all_put, all_item}
 use Rattle.account.proofs.Kept.{deals_more, open_more, trading_more, still_first}
-use Rattle.account.proofs.Running.{length-more}
 use Rattle.desk.specs.Tickets.{greater_number, last_after, last_order, order_of_event}
-use Rattle.desk.specs.Sound.{day_at, IsKept, IsStanding, IsSmall, IsSound, MayTrade, MayEnter, AreQuoted}
+use Rattle.desk.specs.Sound.{day_at, IsKept, IsStanding, IsSmall, IsSound, IsTidy, MayEnter, AreQuoted}
 use Rattle.desk.proofs.Days.{day_small}
+use Rattle.account.proofs.Keys.{item_key}
+use Rattle.account.proofs.Conserved.{after-deal-key, quiet-key}
 use Rattle.desk.proofs.Sums.{within}
+use Rattle.desk.proofs.Tidy.{apart_changed, apart_mapped, apart_placed, apart_removed, apart_altered, unique_changed, sole_mapped, triggered_ticket}
 
 -- the greater of two numbers
 pub greater_left : (a b : ℕ) → a ≤ greater_number a b
@@ -54,6 +55,7 @@ kept_on spec prices times last last' n n' p h k i = record {
   held = i.held;
   volume = omega (arith, ints, i.volume, k);
   swap = i.swap;
+  from = i.from;
   ticket = omega (arith, i.ticket, h);
 }
 
@@ -92,7 +94,7 @@ triggered_standing spec prices last (Some o) h = triggered_one spec prices last 
 
 -- the orders after an event
 orders_step : (spec : AccountSpec) (prices : PriceList) (times : List (Option ℤ)) (es : List Event) (e : Event) → All (IsStanding spec prices (last_order es)) (orders_in_force es) → MayEnter spec prices times es e → All (IsStanding spec prices (greater_number (last_order es) (order_of_event e))) (orders_after (orders_in_force es) e)
-orders_step spec prices times es (Placed o) h m = all_put (IsStanding spec prices (greater_number (last_order es) o.ticket)) order_ticket o.ticket (Some o) (orders_in_force es) (all_standing_on spec prices (last_order es) _ (orders_in_force es) (greater_left (last_order es) o.ticket) h) m
+orders_step spec prices times es (Placed o) h m = all_put (IsStanding spec prices (greater_number (last_order es) o.ticket)) order_ticket o.ticket (Some o) (orders_in_force es) (all_standing_on spec prices (last_order es) _ (orders_in_force es) (greater_left (last_order es) o.ticket) h) m.0
 orders_step spec prices times es (Modified o) h m =
     rw (greater_none (last_order es)) (all_put (IsStanding spec prices (last_order es)) order_ticket o.ticket _ (orders_in_force es) h (changed_standing spec prices (last_order es) o (item order_ticket o.ticket (orders_in_force es)) (all_item (IsStanding spec prices (last_order es)) order_ticket o.ticket (orders_in_force es) h)))
 orders_step spec prices times es (Removed t cause) h m = rw (greater_none (last_order es)) (all_put (IsStanding spec prices (last_order es)) order_ticket t None (orders_in_force es) h tt)
@@ -105,14 +107,14 @@ orders_step spec prices times es (Swap t amount) h m = rw (greater_none (last_or
 -- other stops, or more swap within its bound
 stopped : (spec : AccountSpec) (prices : PriceList) (times : List (Option ℤ)) (last n : ℕ) (sl tp : ℤ) (o : Option Position) → IfSome o (IsKept spec prices times last n) → IfSome (option_map (with_stops sl tp) o) (IsKept spec prices times last n)
 stopped spec prices times last n sl tp None h = tt
-stopped spec prices times last n sl tp (Some p) h = record { symbol = h.symbol; priced = h.priced; held = record { some = h.held.some; volume = h.held.volume; price = h.held.price; swap = h.held.swap }; volume = h.volume; swap = h.swap; ticket = h.ticket }
+stopped spec prices times last n sl tp (Some p) h = record { symbol = h.symbol; priced = h.priced; held = record { some = h.held.some; volume = h.held.volume; price = h.held.price; swap = h.held.swap }; volume = h.volume; swap = h.swap; from = h.from; ticket = h.ticket }
 
 pub swap_fits : (times : List (Option ℤ)) (s : ℕ) (z : ℤ) → day_at times s ≤ 2 ^ 19 → unsigned_abs z ≤ 2 ^ 66 * day_at times s → FitsSigned w128 z
 swap_fits times s z d h = fits_signed_from_abs w128 z (omega (arith, d, h))
 
 swapped : (spec : AccountSpec) (prices : PriceList) (times : List (Option ℤ)) (last n : ℕ) (amount : ℤ) (o : Option Position) → AreQuoted spec prices times → IfSome o (IsKept spec prices times last n) → IfSome o (λ p. unsigned_abs (p.swap +ℤ amount) ≤ 2 ^ 66 * day_at times p.symbol) → IfSome (option_map (with_swap amount) o) (IsKept spec prices times last n)
 swapped spec prices times last n amount None q h k = tt
-swapped spec prices times last n amount (Some p) q h k = record { symbol = h.symbol; priced = h.priced; held = record { some = h.held.some; volume = h.held.volume; price = h.held.price; swap = swap_fits times p.symbol (p.swap +ℤ amount) (day_small times p.symbol q.moments) k }; volume = h.volume; swap = k; ticket = h.ticket }
+swapped spec prices times last n amount (Some p) q h k = record { symbol = h.symbol; priced = h.priced; held = record { some = h.held.some; volume = h.held.volume; price = h.held.price; swap = swap_fits times p.symbol (p.swap +ℤ amount) (day_small times p.symbol q.moments) k }; volume = h.volume; swap = k; from = h.from; ticket = h.ticket }
 
 swap_types : (times : List (Option ℤ)) (amount : ℤ) (o : Option Position) → ((s : ℕ) → day_at times s ≤ 2 ^ 19) → IfSome o (λ p. unsigned_abs (p.swap +ℤ amount) ≤ 2 ^ 66 * day_at times p.symbol) → IfSome o (λ p. FitsSigned w128 (p.swap +ℤ amount))
 swap_types times amount None d k = tt
@@ -167,6 +169,25 @@ nets_step spec prices times es (Triggered t) f h m = quiet_nets es (Triggered t)
 nets_step spec prices times es (Stops t sl tp) f h m = quiet_nets es (Stops t sl tp) refl h
 nets_step spec prices times es (Swap t amount) f h m = quiet_nets es (Swap t amount) refl h
 
+-- orders and positions after an event
+tidy_step : (spec : AccountSpec) (prices : PriceList) (times : List (Option ℤ)) (es : List Event) (e : Event) → IsTidy spec.hedging (orders_in_force es) (open_positions es) → MayEnter spec prices times es e → IsTidy spec.hedging (orders_after (orders_in_force es) e) (positions_after (open_positions es) e)
+tidy_step spec prices times es (Added d) h m = rw m.trade (record {
+  apart = apart_changed (orders_in_force es) (open_positions es) d.position _ (after-deal-key d (item position_ticket d.position (open_positions es)) (item_key position_ticket d.position (open_positions es))) m.alone h.apart;
+  unique = λ g. unique_changed (open_positions es) d.position _ (after-deal-key d (item position_ticket d.position (open_positions es)) (item_key position_ticket d.position (open_positions es))) (m.sole g) (h.unique g);
+})
+tidy_step spec prices times es (Stops t sl tp) h m = record {
+  apart = apart_mapped (orders_in_force es) (open_positions es) t (with_stops sl tp) (λ p. refl) h.apart;
+  unique = λ g. unique_changed (open_positions es) t _ (quiet-key (with_stops sl tp) t (item position_ticket t (open_positions es)) (λ p. refl) (item_key position_ticket t (open_positions es))) (sole_mapped (open_positions es) t (with_stops sl tp) (λ p. refl)) (h.unique g);
+}
+tidy_step spec prices times es (Swap t amount) h m = record {
+  apart = apart_mapped (orders_in_force es) (open_positions es) t (with_swap amount) (λ p. refl) h.apart;
+  unique = λ g. unique_changed (open_positions es) t _ (quiet-key (with_swap amount) t (item position_ticket t (open_positions es)) (λ p. refl) (item_key position_ticket t (open_positions es))) (sole_mapped (open_positions es) t (with_swap amount) (λ p. refl)) (h.unique g);
+}
+tidy_step spec prices times es (Placed o) h m = record { apart = apart_placed (orders_in_force es) (open_positions es) o m.1 h.apart; unique = h.unique }
+tidy_step spec prices times es (Modified o) h m = record { apart = apart_altered (orders_in_force es) (open_positions es) o.ticket (changed o) (λ x. refl) h.apart; unique = h.unique }
+tidy_step spec prices times es (Removed t cause) h m = record { apart = apart_removed (orders_in_force es) (open_positions es) t h.apart; unique = h.unique }
+tidy_step spec prices times es (Triggered t) h m = record { apart = apart_altered (orders_in_force es) (open_positions es) t triggered triggered_ticket h.apart; unique = h.unique }
+
 -- a sound journal is sound after an event that may be added
 pub sound_more : (spec : AccountSpec) (prices : PriceList) (times : List (Option ℤ)) (es : List Event) (e : Event) → AreQuoted spec prices times → IsSound spec prices times es → MayEnter spec prices times es e → IsSound spec prices times (es ++ e ∷ [])
 sound_more spec prices times es e q s m = record {
@@ -176,6 +197,7 @@ sound_more spec prices times es e q s m = record {
   positions = rw (last_more es e) (rw (count_more es e) (rw (open_more es e) (positions_step spec prices times es e q s.positions m)));
   orders = rw (last_more es e) (rw (orders_more es e) (orders_step spec prices times es e s.orders m));
   nets = nets_step spec prices times es e s.first s.nets m;
+  tidy = rw (orders_more es e) (rw (open_more es e) (tidy_step spec prices times es e s.tidy m));
 }
 
 -- what the ledger asks for
@@ -196,7 +218,7 @@ types_kept spec prices times es (Swap t amount) q m = swap_types times amount (i
 
 pub of_account : (spec : AccountSpec) (prices : PriceList) (times : List (Option ℤ)) (es : List Event) (e : Event) → MayEnter spec prices times es e → IsEventOf spec (open_positions es) e
 of_account spec prices times es (Added d) m = record { symbol = m.symbol; same = m.same }
-of_account spec prices times es (Placed o) m = m.symbol
+of_account spec prices times es (Placed o) m = m.0.symbol
 of_account spec prices times es (Modified o) m = m
 of_account spec prices times es (Removed t cause) m = tt
 of_account spec prices times es (Triggered t) m = tt

@@ -1,18 +1,17 @@
 -- A fill that may be done is one that the rule takes, and its events may be added.
-use Rattle.std.proofs.Common.{◌≡◌, ◌∙◌, ℕ, ◌+◌, ◌<◌, ◌≤◌, ◌++◌, Bool, true, false, List, [], ◌∷◌, length, fold, Option, Some, None, Result, Ok, Err, refl, ap, sym, subst, arith}
-use Rattle.std.specs.Prelude.{OnOk, is_err, IfSome}
+use Rattle.std.proofs.Common.{◌≡◌, ◌∙◌, ◌<◌, ◌++◌, Bool, false, List, [], length, fold, Option, Result, Ok, Err, refl, ap, sym, subst}
+use Rattle.std.specs.Prelude.{is_err, IfSome}
 use Rattle.std.proofs.lemmas.List.Sums.{fold-append}
 use Rattle.market_types.specs.declared.symbol_spec.SymbolSpec.{SymbolSpec}
 use Rattle.account.specs.declared.position.Position.{Position}
 use Rattle.account.specs.declared.event.Event.{Event}
 use Rattle.account.specs.Deals.{deals}
-use Rattle.account.specs.Keyed.{item}
 use Rattle.account.specs.Positions.{position_ticket, positions_after, open_positions}
 use Rattle.account.proofs.Found.{all_item}
 use Rattle.account.proofs.Kept.{rising_open}
 use Rattle.positions.specs.declared.fill.Fill.{Fill}
 use Rattle.positions.specs.declared.fill.FillFault.{FillFault}
-use Rattle.positions.specs.Fills.{deal_on, met, refusal, filled, filled_or, events_on, Leaves, IsFill, MayAdd}
+use Rattle.positions.specs.Fills.{deal_on, met, filled, Leaves, IsFill, MayAdd}
 use Rattle.positions.proofs.Filling.{met_item}
 use Rattle.desk.specs.State.{Quoted}
 use Rattle.desk.specs.Sound.{IsKept, IsSound, AreQuoted, MayFollow}
@@ -50,7 +49,7 @@ out_is {X} hedging specs ps ps' q f r out out' rule h e n l =
     (k.0 ∙ ap (λ (x : List Event). x ++ fill_events f q) n, k.1)
 
 pub out_follows : (q : Quoted) (f : Fill) (out : List Event) → AreQuoted q.spec q.prices q.times → IsSound q.spec q.prices q.times q.events → length (deals q.events) < 50000 → IsFillable q f → out ≡ fill_events f q → MayFollow q.spec q.prices q.times q.events out
-out_follows q f out a s l h e = rw e (fill_follows q.spec q.prices q.times q.events f a s l h.may h.fresh)
+out_follows q f out a s l h e = rw e (fill_follows q.spec q.prices q.times q.events f a s l h.may h.order h.fresh h.alone)
 
 -- the rule goes on with the journal
 pub goes_on : (hedging hedging' : Bool) (specs specs' : List SymbolSpec) (ps ps' : List Position) (q q' : Quoted) (f : Fill) → IsRuleOf hedging specs ps q → hedging' ≡ hedging → specs' ≡ specs → ps' ≡ fold positions_after ps (fill_events f q) → q' ≡ with_more (fill_events f q) q → IsRuleOf hedging' specs' ps' q'

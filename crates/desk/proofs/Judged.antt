@@ -1,8 +1,7 @@
--- What judgement accepts may be done, and the rule of money comes last.
-use Rattle.std.proofs.Common.{◌≡◌, ◌∙◌, ℕ, ◌+◌, ◌<◌, ◌≤◌, Bool, true, false, not, cond, eqb, List, [], ◌∷◌, length, ◌++◌, slice_get, Option, Some, None, Result, Ok, Err, ℤ, pos, refl, ap, sym, subst, arith, rules, is_some, ◌&&◌}
-use Rattle.std.specs.Prelude.{is_ok, ⊤}
+-- What judgement accepts may be done.
+use Rattle.std.proofs.Common.{◌≡◌, ℕ, ◌+◌, ◌≤◌, Bool, true, List, length, slice_get, Option, Some, None, ℤ, pos, refl, subst, arith, rules, is_some}
+use Rattle.std.specs.Prelude.{is_ok}
 use Rattle.market_types.specs.declared.symbol_spec.SymbolSpec.{SymbolSpec}
-use Rattle.account.specs.declared.account_spec.AccountSpec.{AccountSpec}
 use Rattle.account.specs.declared.order.Order.{Order}
 use Rattle.account.specs.declared.order.OrderKind.{OrderKind}
 use Rattle.account.specs.declared.order.OrderTime.{OrderTime}
@@ -11,24 +10,24 @@ use Rattle.account.specs.Deals.{deals}
 use Rattle.account.specs.Keyed.{item}
 use Rattle.account.specs.Orders.{order_ticket, orders_in_force}
 use Rattle.account.specs.Positions.{position_ticket, open_positions}
-use Rattle.account.specs.StopOut.{PriceList, prices_at}
+use Rattle.account.specs.StopOut.{prices_at}
 use Rattle.positions.specs.declared.fill.Fill.{Fill}
-use Rattle.positions.specs.CloseBy.{are_opposite, closed_both, closed_by}
+use Rattle.positions.specs.CloseBy.{closed_both}
 use Rattle.judgement.specs.declared.act.Act.{Act}
 use Rattle.judgement.specs.declared.act.Act.TheVariants as act
 use Rattle.judgement.specs.declared.request.Request.{Request}
 use Rattle.judgement.specs.declared.return_code.ReturnCode.{ReturnCode}
-use Rattle.judgement.specs.declared.return_code.ReturnCode.TheVariants as code
 use Rattle.judgement.specs.declared.words.Action.{Action}
 use Rattle.judgement.specs.declared.words.Action.TheVariants as action
 use Rattle.judgement.specs.Acts.{fill_of, placed_order, changed_order, deal_act, pending_act, modify_act, sltp_act, close_by_act, act_by}
+use Rattle.judgement.specs.Accept.{has_money_if}
 use Rattle.judgement.specs.Judge.{place_of, order_of, stops_target, refusal_by}
 use Rattle.judgement.specs.Numbers.{action_of, pending_kind_of, time_of}
 use Rattle.judgement.specs.Rules.{second_of}
 use Rattle.judgement.specs.Tables.{first_failing, deal_rules, pending_rules, modify_rules, close_by_rules, oppose}
-use Rattle.desk.specs.State.{Quoted}
+use Rattle.desk.specs.State.{Quoted, journal_of}
 use Rattle.desk.specs.Sound.{IsSound, AreQuoted}
-use Rattle.desk.specs.Books.{IsFillable, IsPlaceable, IsChangeable, IsPairable}
+use Rattle.desk.specs.Books.{IsPairable}
 use Rattle.desk.specs.Requests.{IsReady}
 use Rattle.desk.specs.Requests as own
 use Rattle.desk.specs.Tickets.{last_order, next_of}
@@ -99,72 +98,5 @@ ready_by q time_ms money r todo (Some action.Remove) a s h g = remove_case q r.o
 ready_by q time_ms money r todo (Some action.CloseBy) a s h g = pair_case q time_ms r todo h g
 
 -- what is to be done for a request that is not refused may be done
-pub ready : (q : Quoted) (time_ms : ℤ) (money : Bool) (r : Request) (todo : Act) → AreQuoted q.spec q.prices q.times → IsSound q.spec q.prices q.times q.events → own.refusal_by q time_ms money r ≡ None → own.todo_of q time_ms r ≡ Some todo → IsReady q todo
-ready q time_ms money r todo a s h g = ready_by q time_ms money r todo (action_of r.action) a s h g
-
--- a rule that fails before that of money fails whatever the money is
-other_fails : (rs : List (Bool × ReturnCode)) (money : Bool) (c d : ReturnCode) → first_failing (rs ++ (true, d) ∷ []) ≡ Some c → first_failing (rs ++ (money, d) ∷ []) ≡ Some c
-other_fails [] money c d h = cc
-other_fails (rule ∷ rs) money c d h =
-    (elim rule.0 as (λ b. cond b (first_failing (rs ++ (true, d) ∷ [])) (Some rule.1) ≡ Some c → cond b (first_failing (rs ++ (money, d) ∷ [])) (Some rule.1) ≡ Some c) [
-      | true ↦ λ g. other_fails rs money c d g
-      | false ↦ λ g. g
-    ]) h
-
-money_fails : (rs : List (Bool × ReturnCode)) (d : ReturnCode) → first_failing (rs ++ (true, d) ∷ []) ≡ None → first_failing (rs ++ (false, d) ∷ []) ≡ Some d
-money_fails [] d h = refl
-money_fails (rule ∷ rs) d h =
-    (elim rule.0 as (λ b. cond b (first_failing (rs ++ (true, d) ∷ [])) (Some rule.1) ≡ None → cond b (first_failing (rs ++ (false, d) ∷ [])) (Some rule.1) ≡ Some d) [
-      | true ↦ λ g. money_fails rs d g
-      | false ↦ λ g. cc
-    ]) h
-
--- the rules of a deal but that of money
-first_rules : List (Bool × ReturnCode) → List (Bool × ReturnCode)
-first_rules (a ∷ b ∷ c ∷ d ∷ e ∷ f ∷ g ∷ h ∷ i ∷ rest) = a ∷ b ∷ c ∷ d ∷ e ∷ f ∷ g ∷ h ∷ i ∷ []
-first_rules rest = []
-
-refused_by : (q : Quoted) (time_ms : ℤ) (money : Bool) (r : Request) (c : ReturnCode) (a : Option Action) → refusal_by a q.spec (orders_in_force q.events) (open_positions q.events) q.prices time_ms true r ≡ Some c → refusal_by a q.spec (orders_in_force q.events) (open_positions q.events) q.prices time_ms money r ≡ Some c
-unfolding first_rules
-refused_by q time_ms money r c None h = h
-refused_by q time_ms money r c (Some action.Deal) h =
-    let place : ℕ = place_of q.spec.specs r.symbol in
-    other_fails (first_rules (deal_rules q.spec.hedging place (slice_get q.spec.specs place) (prices_at q.prices place) (item position_ticket r.position (open_positions q.events)) true r)) money c code.NoMoney h
-refused_by q time_ms money r c (Some action.Pending) h = h
-refused_by q time_ms money r c (Some action.Sltp) h = h
-refused_by q time_ms money r c (Some action.Modify) h = h
-refused_by q time_ms money r c (Some action.Remove) h = h
-refused_by q time_ms money r c (Some action.CloseBy) h = h
-
-pub refused_anyway : (q : Quoted) (time_ms : ℤ) (money : Bool) (r : Request) (c : ReturnCode) → own.refusal_by q time_ms true r ≡ Some c → own.refusal_by q time_ms money r ≡ Some c
-refused_anyway q time_ms money r c h = refused_by q time_ms money r c (action_of r.action) h
-
--- a deal for which there is no money
-no_act_deal : (o : Option Position) (r : Request) (f : Fill) → sltp_act o r ≡ Some (act.Deal f) → ⊥
-no_act_deal None r f h = cc
-no_act_deal (Some p) r f h = cc
-
-no_pending_deal : (ticket : ℕ) (time_ms : ℤ) (place : ℕ) (kind : Option OrderKind) (t : Option OrderTime) (r : Request) (f : Fill) → pending_act ticket time_ms place kind t r ≡ Some (act.Deal f) → ⊥
-no_pending_deal ticket time_ms place None t r f h = cc
-no_pending_deal ticket time_ms place (Some kind) None r f h = cc
-no_pending_deal ticket time_ms place (Some kind) (Some t) r f h = cc
-
-no_modify_deal : (time_ms : ℤ) (t : Option OrderTime) (o : Option Order) (r : Request) (f : Fill) → modify_act time_ms t o r ≡ Some (act.Deal f) → ⊥
-no_modify_deal time_ms None o r f h = cc
-no_modify_deal time_ms (Some t) None r f h = cc
-no_modify_deal time_ms (Some t) (Some o) r f h = cc
-
-poor_by : (q : Quoted) (time_ms : ℤ) (r : Request) (f : Fill) (a : Option Action) → refusal_by a q.spec (orders_in_force q.events) (open_positions q.events) q.prices time_ms true r ≡ None → act_by a q.spec (orders_in_force q.events) (open_positions q.events) q.prices time_ms (next_of q.events) r ≡ Some (act.Deal f) → refusal_by a q.spec (orders_in_force q.events) (open_positions q.events) q.prices time_ms false r ≡ Some code.NoMoney
-unfolding first_rules
-poor_by q time_ms r f None h g = cc
-poor_by q time_ms r f (Some action.Deal) h g =
-    let place : ℕ = place_of q.spec.specs r.symbol in
-    money_fails (first_rules (deal_rules q.spec.hedging place (slice_get q.spec.specs place) (prices_at q.prices place) (item position_ticket r.position (open_positions q.events)) true r)) code.NoMoney h
-poor_by q time_ms r f (Some action.Pending) h g = absurd (no_pending_deal _ time_ms (place_of q.spec.specs r.symbol) (pending_kind_of r.kind) (time_of r.type_time) r f g)
-poor_by q time_ms r f (Some action.Sltp) h g = absurd (no_act_deal (stops_target q.spec.hedging (open_positions q.events) (place_of q.spec.specs r.symbol) r) r f g)
-poor_by q time_ms r f (Some action.Modify) h g = absurd (no_modify_deal time_ms (time_of r.type_time) (order_of (orders_in_force q.events) r) r f g)
-poor_by q time_ms r f (Some action.Remove) h g = cc
-poor_by q time_ms r f (Some action.CloseBy) h g = cc
-
-pub poor : (q : Quoted) (time_ms : ℤ) (r : Request) (f : Fill) → own.refusal_by q time_ms true r ≡ None → own.todo_of q time_ms r ≡ Some (act.Deal f) → own.refusal_by q time_ms false r ≡ Some code.NoMoney
-poor q time_ms r f h g = poor_by q time_ms r f (action_of r.action) h g
+pub ready : (q : Quoted) (time_ms : ℤ) (r : Request) (todo : Act) → AreQuoted q.spec q.prices q.times → IsSound q.spec q.prices q.times q.events → own.code_for q time_ms r ≡ None → own.todo_of q time_ms r ≡ Some todo → IsReady q todo
+ready q time_ms r todo a s h g = ready_by q time_ms (has_money_if (journal_of q) q.prices (own.todo_of q time_ms r)) r todo (action_of r.action) a s h g

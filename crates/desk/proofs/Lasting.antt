@@ -1,8 +1,7 @@
 -- A request takes one order ticket at most.
-use Rattle.std.proofs.Common.{◌≡◌, ◌∙◌, ℕ, ◌+◌, ◌<◌, ◌≤◌, ◌++◌, append-nil, Bool, true, false, cond, List, [], ◌∷◌, length, fold, Option, Some, None, Result, Ok, Err, ℤ, refl, ap, sym, subst, arith, ◌&&◌}
+use Rattle.std.proofs.Common.{◌≡◌, ℕ, ◌+◌, ◌≤◌, ◌++◌, append-nil, true, false, cond, [], ◌∷◌, Option, Some, None, Ok, Err, ℤ, refl, ap, arith}
 use Rattle.std.specs.Prelude.{is_ok}
 use Rattle.std.proofs.lemmas.List.Sums.{fold-append}
-use Rattle.market_types.specs.declared.symbol_spec.SymbolSpec.{SymbolSpec}
 use Rattle.account.specs.declared.position.Position.{Position}
 use Rattle.account.specs.declared.event.Event.{Event}
 use Rattle.account.specs.declared.event.Event.TheVariants.{Placed, Modified, Removed, Stops}
@@ -11,17 +10,17 @@ use Rattle.positions.specs.declared.fill.Fill.{Fill}
 use Rattle.positions.specs.declared.fill.FillFault.TheVariants as fault
 use Rattle.account.specs.Keyed.{item}
 use Rattle.account.specs.Positions.{position_ticket}
-use Rattle.positions.specs.CloseBy.{are_opposite, first_deal, second_deal, both_events, closed_both, closed_by}
+use Rattle.positions.specs.CloseBy.{are_opposite, first_deal, second_deal, both_events, closed_both}
 use Rattle.judgement.specs.declared.act.Act.{Act}
 use Rattle.judgement.specs.declared.act.Act.TheVariants as act
 use Rattle.judgement.specs.declared.request.Request.{Request}
 use Rattle.judgement.specs.declared.return_code.ReturnCode.{ReturnCode}
 use Rattle.desk.specs.Books.{fill_events, IsFillable, IsPairable}
-use Rattle.desk.specs.Requests.{Outcome, dealt_outcome, outcome_of, outcome_by, refusal_by, todo_of, money_for, judged, IsReady}
+use Rattle.desk.specs.Requests.{Outcome, dealt_outcome, outcome_of, outcome_by, code_for, todo_of, judged, IsReady}
 use Rattle.desk.specs.Sound.{IsSound, AreQuoted}
 use Rattle.desk.specs.State.{Quoted}
 use Rattle.desk.specs.Tickets.{greater_number, last_after, last_order, order_of_event}
-use Rattle.desk.proofs.Entered.{last_more, greater_none}
+use Rattle.desk.proofs.Entered.{last_more}
 use Rattle.desk.proofs.Judged.{ready}
 use Rattle.desk.proofs.Outcomes.{deal_outcome}
 use Rattle.desk.proofs.Stepping.{filled_last}
@@ -69,11 +68,11 @@ act_taken q (act.Remove t) h = one_taken q (Removed t _) (omega arith)
 act_taken q (act.SetStops t sl tp) h = one_taken q (Stops t sl tp) (omega arith)
 act_taken q (act.CloseBy one other at) h = pair_taken q one other at h
 
-by_taken : (q : Quoted) (time_ms : ℤ) (money : Bool) (r : Request) (c : Option ReturnCode) (t : Option Act) → AreQuoted q.spec q.prices q.times → IsSound q.spec q.prices q.times q.events → refusal_by q time_ms money r ≡ c → todo_of q time_ms r ≡ t → last_order (q.events ++ (outcome_by q c t).events) ≤ last_order q.events + 1
-by_taken q time_ms money r (Some c) t a s h g = none_taken q
-by_taken q time_ms money r None None a s h g = none_taken q
-by_taken q time_ms money r None (Some t) a s h g = act_taken q t (ready q time_ms money r t a s h g)
+by_taken : (q : Quoted) (time_ms : ℤ) (r : Request) (c : Option ReturnCode) (t : Option Act) → AreQuoted q.spec q.prices q.times → IsSound q.spec q.prices q.times q.events → code_for q time_ms r ≡ c → todo_of q time_ms r ≡ t → last_order (q.events ++ (outcome_by q c t).events) ≤ last_order q.events + 1
+by_taken q time_ms r (Some c) t a s h g = none_taken q
+by_taken q time_ms r None None a s h g = none_taken q
+by_taken q time_ms r None (Some t) a s h g = act_taken q t (ready q time_ms r t a s h g)
 
 -- a request takes one ticket at most
 pub judged_last : (q : Quoted) (time_ms : ℤ) (r : Request) → AreQuoted q.spec q.prices q.times → IsSound q.spec q.prices q.times q.events → last_order (q.events ++ (judged q time_ms r).events) ≤ last_order q.events + 1
-judged_last q time_ms r a s = by_taken q time_ms (money_for q (todo_of q time_ms r)) r (refusal_by q time_ms (money_for q (todo_of q time_ms r)) r) (todo_of q time_ms r) a s refl refl
+judged_last q time_ms r a s = by_taken q time_ms r (code_for q time_ms r) (todo_of q time_ms r) a s refl refl

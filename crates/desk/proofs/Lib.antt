@@ -14,3 +14,4 @@ pub mod Room
 pub mod Samples
 pub mod Stepping
 pub mod Sums
+pub mod Tidy

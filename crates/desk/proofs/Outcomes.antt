@@ -1,5 +1,5 @@
 -- The outcomes of what is done.
-use Rattle.std.proofs.Common.{◌≡◌, ◌∙◌, ℕ, ◌+◌, ◌<◌, ◌≤◌, ◌++◌, Bool, true, false, cond, List, [], ◌∷◌, length, slice_get, Option, Some, None, Result, Ok, Err, ℤ, pos, refl, ap, sym, subst, arith, ◌&&◌}
+use Rattle.std.proofs.Common.{◌≡◌, ◌∙◌, ℕ, ◌+◌, ◌<◌, ◌≤◌, true, false, cond, List, [], ◌∷◌, length, slice_get, Option, Some, None, Ok, Err, ℤ, refl, ap, sym, arith, ◌&&◌}
 use Rattle.std.specs.Prelude.{nat_le}
 use Rattle.std.specs.Ordering.{int_eq}
 use Rattle.market_types.specs.declared.symbol_spec.SymbolSpec.{SymbolSpec}
@@ -8,21 +8,20 @@ use Rattle.account.specs.declared.deal.Deal.{Deal}
 use Rattle.account.specs.declared.deal.DealEntry.TheVariants as entry
 use Rattle.account.specs.declared.position.Position.{Position}
 use Rattle.account.specs.declared.event.Event.{Event}
-use Rattle.account.specs.declared.event.Event.TheVariants.{Added, Stops}
+use Rattle.account.specs.declared.event.Event.TheVariants.{Stops}
 use Rattle.account.specs.Deals.{deal_of, deals}
 use Rattle.account.specs.Positions.{same_side, after_deal, open_positions}
 use Rattle.account.specs.StopOut.{PriceList}
 use Rattle.positions.specs.declared.fill.Fill.{Fill}
 use Rattle.positions.specs.declared.fill.Levels.{Levels}
-use Rattle.positions.specs.declared.fill.FillFault.{FillFault}
-use Rattle.positions.specs.Fills.{plain, closed, deal_on, met, levels_of, stops_event, filled, refusal}
+use Rattle.positions.specs.Fills.{plain, closed, deal_on, met, levels_of, stops_event, filled}
 use Rattle.judgement.specs.declared.request.Answer.{Answer}
 use Rattle.judgement.specs.declared.return_code.ReturnCode.{ReturnCode}
 use Rattle.judgement.specs.declared.return_code.ReturnCode.TheVariants as code
 use Rattle.std.specs.List.{cons_option}
 use Rattle.desk.specs.State.{Quoted, have_room}
 use Rattle.desk.specs.Books.{Kept, gained, fill_events, IsFillable}
-use Rattle.desk.specs.Requests.{Outcome, answer_of, done, dealt_outcome, refused, Answers}
+use Rattle.desk.specs.Requests.{answer_of, done, dealt_outcome, Answers}
 use Rattle.desk.specs.Sound.{IsSound}
 use Rattle.desk.specs.declared.fault.DeskFault.TheVariants as desk_fault
 

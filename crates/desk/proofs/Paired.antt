@@ -1,12 +1,11 @@
 -- Close-bys in the books.
-use Rattle.std.proofs.Common.{◌≡◌, ◌∙◌, ℕ, ◌+◌, ◌^◌, ◌<◌, ◌≤◌, ◌++◌, Bool, true, false, cond, List, [], ◌∷◌, length, fold, slice_get, Option, Some, None, Result, Ok, Err, ℤ, refl, ap, sym, subst, arith}
+use Rattle.std.proofs.Common.{◌≡◌, ◌∙◌, ℕ, ◌+◌, ◌^◌, ◌<◌, ◌≤◌, ◌++◌, Bool, true, false, cond, List, [], length, fold, Option, Some, None, Result, Ok, Err, refl, ap, sym, subst, arith}
 use Rattle.std.specs.Prelude.{is_ok, is_err, nat_le}
 use Rattle.std.proofs.lemmas.List.Sums.{fold-append}
 use Rattle.market_types.specs.declared.symbol_spec.SymbolSpec.{SymbolSpec}
 use Rattle.account.specs.declared.order.Order.{Order}
 use Rattle.account.specs.declared.position.Position.{Position}
 use Rattle.account.specs.declared.event.Event.{Event}
-use Rattle.account.specs.declared.event.Event.TheVariants.{Added}
 use Rattle.account.specs.Deals.{deals}
 use Rattle.account.specs.Keyed.{item}
 use Rattle.account.specs.Orders.{orders_after, orders_in_force}
@@ -24,7 +23,6 @@ use Rattle.desk.specs.Requests.{dealt_outcome, pair_answer, Answers}
 use Rattle.desk.specs.Sound.{IsSound, AreQuoted, MayFollow}
 use Rattle.desk.specs.State.{Quoted, have_room}
 use Rattle.desk.specs.Tickets.{greater_number, last_after, last_order}
-use Rattle.desk.proofs.Entered.{greater_none}
 use Rattle.desk.proofs.Filling.{left_ok}
 use Rattle.desk.proofs.Pairs.{pair_follows}
 

@@ -1,9 +1,8 @@
 -- The deals of a close-by may be added one after the other.
-use Rattle.std.proofs.Common.{◌≡◌, ◌∙◌, ℕ, ◌+◌, ◌^◌, ◌<◌, ◌≤◌, ◌++◌, Bool, true, false, not, cond, eqb, List, [], ◌∷◌, length, Option, Some, None, ℤ, pos, ◌≤ℤ◌, ◌<ℤ◌, int_lt, FitsSigned, refl, ap, sym, subst, arith, rules, ◌&&◌}
+use Rattle.std.proofs.Common.{◌≡◌, ℕ, ◌+◌, ◌<◌, ◌≤◌, ◌++◌, Bool, true, false, not, cond, eqb, List, [], ◌∷◌, length, Option, Some, None, ℤ, pos, ◌≤ℤ◌, ◌<ℤ◌, int_lt, FitsSigned, refl, subst, arith, ◌&&◌}
 use Rattle.std.specs.Int.{w64}
 use Rattle.std.specs.Prelude.{IfSome}
 use Rattle.std.proofs.lemmas.Int.{ints}
-use Rattle.market_types.specs.declared.symbol_spec.SymbolSpec.{SymbolSpec}
 use Rattle.account.specs.declared.account_spec.AccountSpec.{AccountSpec}
 use Rattle.account.specs.declared.deal.Deal.{Deal}
 use Rattle.account.specs.declared.deal.DealEntry.{DealEntry}
@@ -12,8 +11,8 @@ use Rattle.account.specs.declared.event.Event.{Event}
 use Rattle.account.specs.declared.event.Event.TheVariants.{Added}
 use Rattle.account.specs.Deals.{deals, net}
 use Rattle.account.specs.Keyed.{item}
-use Rattle.account.specs.Positions.{position_ticket, same_side, is_balance, after_deal, open_positions}
-use Rattle.account.specs.Ranges.{IsHeld, MayDeal}
+use Rattle.account.specs.Positions.{position_ticket, same_side, after_deal, open_positions}
+use Rattle.account.specs.Ranges.{IsHeld}
 use Rattle.account.specs.StopOut.{PriceList}
 use Rattle.account.proofs.Found.{all_item}
 use Rattle.account.proofs.Kept.{open_more}
@@ -22,7 +21,7 @@ use Rattle.positions.specs.Fills.{closed, deal_on}
 use Rattle.positions.specs.CloseBy.{against, deal_by, common, first_deal, second_deal, both_events, are_opposite}
 use Rattle.positions.proofs.Closing.{other_side, common_some, common_fits, apart, still, item_ticket}
 use Rattle.positions.proofs.Filling.{not_balance}
-use Rattle.desk.specs.Sound.{IsKept, IsSound, IsSmall, MayFill, MayTrade, MayFollow, AreQuoted}
+use Rattle.desk.specs.Sound.{IsKept, IsSound, MayFill, MayTrade, MayFollow, AreQuoted}
 use Rattle.desk.specs.Tickets.{last_order}
 use Rattle.desk.proofs.Entered.{sound_more, count_more}
 use Rattle.desk.proofs.Fits.{trade_on}
@@ -42,6 +41,8 @@ by_entry spec prices times es d e m = record {
   types = (m.types.0, rw (redealt d e (item position_ticket d.position (open_positions es))) m.types.1);
   left = rw (redealt d e (item position_ticket d.position (open_positions es))) m.left;
   small = m.small;
+  alone = m.alone;
+  sole = λ h. rw (redealt d e (item position_ticket d.position (open_positions es))) (m.sole h);
 }
 
 common_most : (p q : Position) → common p q ≤ℤ p.volume
@@ -75,7 +76,7 @@ deal_may spec prices times es at p deal v a q s l e sv fv fa m =
     let o : same_side p.buy (not p.buy) ≡ false = other_side p.buy in
     let c : deal_on spec.specs (against at p deal v a) (Some p) ≡ closed spec.specs (against at p deal v a) p = rw o refl in
     let k : IsKept spec prices times (last_order es) (length (deals es)) p = subst (λ (x : Option Position). IfSome x (IsKept spec prices times (last_order es) (length (deals es)))) e (all_item (IsKept spec prices times (last_order es) (length (deals es))) position_ticket p.ticket (open_positions es) s.positions) in
-    let t : MayTrade spec prices times es (deal_on spec.specs (against at p deal v a) (Some p)) = trade_on spec prices times es (against at p deal v a) (Some p) q s l (against_may spec prices times (last_order es) (length (deals es)) at p deal v a k sv fv fa m (omega (arith, l))) (rw c e) in
+    let t : MayTrade spec prices times es (deal_on spec.specs (against at p deal v a) (Some p)) = trade_on spec prices times es (against at p deal v a) (Some p) q s l (against_may spec prices times (last_order es) (length (deals es)) at p deal v a k sv fv fa m (omega (arith, l))) (rw c e) (λ n. cc) (λ n. cc) (λ h n. cc) in
     by_entry spec prices times es (closed spec.specs (against at p deal v a) p) _ (subst (λ (d : Deal). MayTrade spec prices times es d) c t)
 
 kept_item : (spec : AccountSpec) (prices : PriceList) (times : List (Option ℤ)) (es : List Event) (t : ℕ) (p : Position) → IsSound spec prices times es → item position_ticket t (open_positions es) ≡ Some p → IsHeld p

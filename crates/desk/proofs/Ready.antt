@@ -1,29 +1,29 @@
 -- What judgement accepts may be done: deals.
-use Rattle.std.proofs.Common.{◌≡◌, ◌∙◌, ℕ, suc, zero, ◌+◌, ◌*◌, ◌^◌, ◌<◌, ◌≤◌, ◌++◌, Bool, true, false, not, cond, eqb, List, [], ◌∷◌, length, find, slice_get, Option, Some, None, ℤ, pos, ◌+ℤ◌, ◌≤ℤ◌, ◌<ℤ◌, int_lt, FitsSigned, refl, ap, sym, subst, arith, rules, is_some, ◌&&◌, ◌||◌}
+use Rattle.std.proofs.Common.{◌≡◌, ℕ, suc, zero, ◌+◌, ◌^◌, ◌<◌, Bool, true, false, not, cond, eqb, List, [], ◌∷◌, length, find, slice_get, Option, Some, None, ℤ, pos, ◌≤ℤ◌, ◌<ℤ◌, int_lt, FitsSigned, refl, ap, subst, arith, rules, is_some, ◌||◌}
 use Rattle.std.specs.Int.{w64}
 use Rattle.std.specs.List.{All}
-use Rattle.std.specs.Prelude.{IfSome, int_le, unwrap_or, ⊤}
+use Rattle.std.specs.Prelude.{IfSome, int_le, ⊤}
 use Rattle.std.proofs.lemmas.Int.{ints}
-use Rattle.std.proofs.lemmas.Option.{slice_get_within}
 use Rattle.std.proofs.lemmas.List.Elements.{All-tail}
 use Rattle.market_types.specs.Ranges.{IsSpec}
 use Rattle.market_types.specs.declared.symbol_spec.SymbolSpec.{SymbolSpec}
 use Rattle.account.specs.declared.account_spec.AccountSpec.{AccountSpec}
 use Rattle.account.specs.declared.position.Position.{Position}
 use Rattle.account.specs.Deals.{deals}
+use Rattle.account.specs.declared.order.Order.{Order}
 use Rattle.account.specs.Keyed.{item}
+use Rattle.account.specs.Orders.{order_ticket, orders_in_force}
 use Rattle.account.specs.Positions.{position_ticket, same_side, open_positions}
 use Rattle.account.specs.StopOut.{PriceList, prices_at, closing_price}
 use Rattle.positions.specs.declared.fill.Fill.{Fill}
-use Rattle.positions.specs.declared.fill.FillFault.{FillFault}
-use Rattle.positions.specs.Fills.{named, met, refusal, named_refusal, closing_refusal}
+use Rattle.positions.specs.Fills.{named, met, refusal, named_refusal}
 use Rattle.judgement.specs.declared.request.Request.{Request}
 use Rattle.judgement.specs.declared.return_code.ReturnCode.{ReturnCode}
 use Rattle.judgement.specs.Acts.{fill_of}
 use Rattle.judgement.specs.Rules.{is_volume}
 use Rattle.judgement.specs.Tables.{first_failing, deal_rules, has_volume, names_open, names_other_side, names_enough}
 use Rattle.desk.specs.State.{Quoted}
-use Rattle.desk.specs.Sound.{IsKept, IsSound, IsModest, MayFill, AreQuoted, ArePrices}
+use Rattle.desk.specs.Sound.{IsKept, IsStanding, IsSound, IsModest, AreQuoted, ArePrices}
 use Rattle.desk.specs.Books.{IsFillable}
 use Rattle.desk.specs.Tickets.{last_order}
 
@@ -155,7 +155,7 @@ prices_fit [] place pair h e = cc
 prices_fit (x ∷ xs) zero pair h e = subst (λ (y : Option (ℤ × ℤ)). IfSome y ArePrices) e (h zero x (omega arith))
 prices_fit (x ∷ xs) (suc n) pair h e = prices_fit xs n pair (All-tail (λ y. IfSome y ArePrices) x xs h) e
 
-price_fits : (b : Bool) (pair : ℤ × ℤ) → ArePrices pair → FitsSigned w64 (closing_price b pair)
+pub price_fits : (b : Bool) (pair : ℤ × ℤ) → ArePrices pair → FitsSigned w64 (closing_price b pair)
 price_fits true pair h = omega (arith, ints, h.0.above, h.0.most)
 price_fits false pair h = omega (arith, ints, h.1.above, h.1.most)
 
@@ -164,12 +164,20 @@ modest_all f None h = h
 modest_all f (Some p) h = (λ e. h, λ e. h)
 
 -- no position has a ticket past the last
-fresh_item : (spec : AccountSpec) (prices : PriceList) (times : List (Option ℤ)) (last n t : ℕ) (ps : List Position) → last < t → All (IsKept spec prices times last n) ps → item position_ticket t ps ≡ None
+pub fresh_item : (spec : AccountSpec) (prices : PriceList) (times : List (Option ℤ)) (last n t : ℕ) (ps : List Position) → last < t → All (IsKept spec prices times last n) ps → item position_ticket t ps ≡ None
 fresh_item spec prices times last n t [] l h = refl
 fresh_item spec prices times last n t (p ∷ ps) l h =
     let k : IsKept spec prices times last n p = h zero p (omega arith) in
     let e : eqb p.ticket t ≡ false = grind (arith, k.ticket, l) in
     rw e (fresh_item spec prices times last n t ps l (All-tail (IsKept spec prices times last n) p ps h))
+
+-- no order has a ticket past the last
+pub fresh_order : (spec : AccountSpec) (prices : PriceList) (last t : ℕ) (os : List Order) → last < t → All (IsStanding spec prices last) os → item order_ticket t os ≡ None
+fresh_order spec prices last t [] l h = refl
+fresh_order spec prices last t (o ∷ os) l h =
+    let k : IsStanding spec prices last o = h zero o (omega arith) in
+    let e : eqb o.ticket t ≡ false = grind (arith, k.ticket, l) in
+    rw e (fresh_order spec prices last t os l (All-tail (IsStanding spec prices last) o os h))
 
 -- the fill of a deal that is accepted may be done
 pub deal_ready : (q : Quoted) (deal : ℕ) (time_ms : ℤ) (place : ℕ) (pair : ℤ × ℤ) (money : Bool) (r : Request) → AreQuoted q.spec q.prices q.times → IsSound q.spec q.prices q.times q.events → prices_at q.prices place ≡ Some pair → first_failing (deal_rules q.spec.hedging place (slice_get q.spec.specs place) (prices_at q.prices place) (item position_ticket r.position (open_positions q.events)) money r) ≡ None → IsFillable q (fill_of (last_order q.events + 1) deal time_ms place pair r)
@@ -192,4 +200,5 @@ deal_ready q deal time_ms place pair money r a s e h =
       order = λ n. omega arith;
       taken = omega arith;
       fresh = λ n. fresh_item q.spec q.prices q.times (last_order q.events) (length (deals q.events)) (last_order q.events + 1) ps (omega arith) s.positions;
+      alone = λ n. fresh_order q.spec q.prices (last_order q.events) (last_order q.events + 1) (orders_in_force q.events) (omega arith) s.orders;
     }

@@ -1,22 +1,19 @@
 -- There is room for one more deal, and what the rule of money asks for.
-use Rattle.std.proofs.Common.{◌≡◌, ℕ, ◌+◌, ◌*◌, ◌^◌, ◌<◌, ◌≤◌, Bool, List, length, Option, None, ℤ, pos, ◌≤ℤ◌, unsigned_abs, refl, arith, slice_index_or}
-use Rattle.std.specs.List.{All}
+use Rattle.std.proofs.Common.{◌≡◌, ℕ, ◌+◌, ◌^◌, ◌≤◌, List, length, Option, None, ℤ, unsigned_abs, arith, slice_index_or}
 use Rattle.std.proofs.lemmas.Int.{ints}
 use Rattle.account.specs.declared.account_spec.AccountSpec.{AccountSpec}
 use Rattle.account.specs.declared.position.Position.{Position}
-use Rattle.account.specs.declared.event.Event.{Event}
 use Rattle.account.specs.Deals.{deals, balance}
-use Rattle.account.specs.Positions.{open_positions}
+use Rattle.account.specs.Positions.{position_ticket, open_positions}
 use Rattle.account.specs.StopOut.{PriceList}
-use Rattle.positions.specs.declared.fill.Fill.{Fill}
-use Rattle.positions.specs.Fills.{IsFill}
 use Rattle.positions.specs.Money.{IsRoomy, HasRoom}
-use Rattle.desk.specs.State.{Quoted}
+use Rattle.desk.specs.State.{Quoted, journal_of}
 use Rattle.desk.specs.Sound.{IsKept, IsSound, AreQuoted}
-use Rattle.desk.specs.Books.{IsFillable}
 use Rattle.desk.specs.Tickets.{last_order}
 use Rattle.desk.proofs.Days.{day_small}
-use Rattle.desk.proofs.Filling.{is_fill}
+use Rattle.account.specs.Journal.{Journal}
+use Rattle.account.specs.Keyed.{item}
+use Rattle.desk.proofs.Ready.{fresh_item}
 use Rattle.desk.proofs.Sums.{balance_le}
 
 roomy : (spec : AccountSpec) (prices : PriceList) (times : List (Option ℤ)) (last n : ℕ) (p : Position) → AreQuoted spec prices times → n ≤ 50000 → IsKept spec prices times last n p → IsRoomy prices p
@@ -33,12 +30,10 @@ has_room q a s = record {
   balance = let b : unsigned_abs (balance q.events) ≤ 2 ^ 119 = balance_le q.spec q.events s.account s.first s.few s.nets in omega (arith, b);
 }
 
-pub may_try : (q : Quoted) (f : Fill) → IsFillable q f → IsFill q.spec.hedging q.spec.specs (open_positions q.events) f
-may_try q f h = is_fill q.spec.hedging q.spec.specs (open_positions q.events) q f (record { kind = refl; symbols = refl; positions = refl }) h
-
 -- the same in the words of a ledger
-pub has_room_at : (q : Quoted) (spec : AccountSpec) (prices : PriceList) (events : List Event) → spec ≡ q.spec → prices ≡ q.prices → events ≡ q.events → AreQuoted q.spec q.prices q.times → IsSound q.spec q.prices q.times q.events → HasRoom spec prices events
-has_room_at q spec prices events e f g a s = rw e (rw f (rw g (has_room q a s)))
+pub has_room_at : (q : Quoted) (j : Journal) (prices : PriceList) → j ≡ journal_of q → prices ≡ q.prices → AreQuoted q.spec q.prices q.times → IsSound q.spec q.prices q.times q.events → HasRoom j.spec prices j.events
+has_room_at q j prices e f a s = rw e (rw f (has_room q a s))
 
-pub may_try_at : (q : Quoted) (spec : AccountSpec) (events : List Event) (f : Fill) → spec ≡ q.spec → events ≡ q.events → IsFillable q f → IsFill spec.hedging spec.specs (open_positions events) f
-may_try_at q spec events f e g h = rw e (rw g (may_try q f h))
+-- no position has the next order ticket
+pub fresh_next : (q : Quoted) (j : Journal) → j ≡ journal_of q → IsSound q.spec q.prices q.times q.events → item position_ticket (last_order q.events + 1) (open_positions j.events) ≡ None
+fresh_next q j e s = rw e (fresh_item q.spec q.prices q.times (last_order q.events) (length (deals q.events)) (last_order q.events + 1) (open_positions q.events) (omega arith) s.positions)

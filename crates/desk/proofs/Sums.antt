@@ -1,11 +1,9 @@
 -- Sums of what is small stay within 128 bits.
-use Rattle.std.proofs.Common.{◌≡◌, ◌∙◌, ℕ, suc, zero, ◌+◌, ◌*◌, ◌^◌, ◌<◌, ◌≤◌, Bool, true, false, cond, List, [], ◌∷◌, length, take, drop, filter, fold, slice_index_or, ℤ, pos, ◌+ℤ◌, ◌-ℤ◌, unsigned_abs, FitsSigned, refl, ap, sym, subst, arith}
+use Rattle.std.proofs.Common.{◌≡◌, ℕ, suc, zero, ◌+◌, ◌*◌, ◌^◌, ◌≤◌, Bool, true, false, List, [], ◌∷◌, length, take, drop, filter, fold, slice_index_or, ℤ, ◌+ℤ◌, ◌-ℤ◌, unsigned_abs, FitsSigned, subst, arith}
 use Rattle.std.specs.Int.{w128}
 use Rattle.std.specs.List.{All}
 use Rattle.std.proofs.lemmas.Int.{ints, fits_signed_from_abs}
 use Rattle.std.proofs.lemmas.List.Elements.{All-tail, All-filter}
-use Rattle.market_types.specs.Ranges.{IsSpec}
-use Rattle.market_types.specs.declared.symbol_spec.SymbolSpec.{SymbolSpec}
 use Rattle.account.specs.declared.account_spec.AccountSpec.{AccountSpec}
 use Rattle.account.specs.declared.deal.Deal.{Deal}
 use Rattle.account.specs.declared.position.Position.{Position}
@@ -15,7 +13,7 @@ use Rattle.account.specs.Journal.{deposit_deal}
 use Rattle.account.specs.Positions.{open_positions}
 use Rattle.account.specs.Ranges.{IsAccount, IsHeld, IsWithin}
 use Rattle.account.specs.Statistics.{gain, loss, greater, Path, begun, path_after, balance_path}
-use Rattle.account.specs.StopOut.{position_margin, is_on, side_margin, symbol_margin, total_below, margin_by, margin_of}
+use Rattle.account.specs.StopOut.{position_margin, is_on, side_margin, symbol_margin, total_below, margin_by}
 use Rattle.account.proofs.Bounds.{margin_most, total_le, sum_le, filter_few, few_open}
 use Rattle.account.proofs.Kept.{balance_is}
 use Rattle.desk.specs.Sound.{IsSmall}

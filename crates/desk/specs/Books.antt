@@ -1,5 +1,5 @@
 -- A ledger, its positions and its orders in step (own), and what each act asks for.
-use Rattle.std.specs.Prelude.{◌≡◌, ℕ, ◌+◌, ◌<◌, ◌≤◌, ◌^◌, ◌++◌, Bool, true, false, List, length, Option, None, Result, Ok, Err, is_ok, is_some}
+use Rattle.std.specs.Prelude.{◌≡◌, ℕ, ◌+◌, ◌<◌, ◌≤◌, ◌++◌, Bool, true, List, length, None, is_ok}
 use Rattle.market_types.specs.declared.symbol_spec.SymbolSpec.{SymbolSpec}
 use Rattle.account.specs.declared.order.Order.{Order}
 use Rattle.account.specs.declared.position.Position.{Position}
@@ -10,7 +10,6 @@ use Rattle.account.specs.Orders.{order_ticket, orders_in_force}
 use Rattle.account.specs.Positions.{position_ticket, open_positions}
 use Rattle.order_book.specs.Book.{most_orders, modify_fault}
 use Rattle.positions.specs.declared.fill.Fill.{Fill}
-use Rattle.positions.specs.declared.fill.FillFault.{FillFault}
 use Rattle.positions.specs.Fills.{met, events_on, refusal}
 use Rattle.positions.specs.CloseBy.{closed_by}
 use Rattle.positions.specs.Money.{added_by}
@@ -41,6 +40,8 @@ pub record IsFillable (q : Quoted) (f : Fill) : Type 0 where
   pub taken : f.order ≤ last_order q.events + 1
   pub fresh : met q.spec.hedging (open_positions q.events) f ≡ None →
       item position_ticket f.order (open_positions q.events) ≡ None
+  pub alone : met q.spec.hedging (open_positions q.events) f ≡ None →
+      item order_ticket f.order (orders_in_force q.events) ≡ None
 
 -- a close-by that may be done: both positions are open and opposite, and its order has the next ticket
 pub record IsPairable (q : Quoted) (one other : ℕ) (at : Fill) : Type 0 where
@@ -58,6 +59,7 @@ pair_events one other at q =
 pub record IsPlaceable (q : Quoted) (o : Order) : Type 0 where
   pub standing : IsStanding q.spec q.prices (greater_number (last_order q.events) o.ticket) o
   pub fresh : item order_ticket o.ticket (orders_in_force q.events) ≡ None
+  pub apart : item position_ticket o.ticket (open_positions q.events) ≡ None
   pub few : length (orders_in_force q.events) < most_orders
   pub taken : o.ticket ≤ last_order q.events + 1
 

@@ -1,6 +1,6 @@
 -- What one loud quote does to an account before the expert sees it, and what closing does at the end
 -- (MetaTrader 5 Help, Types of Orders, Stop Loss and Take Profit, Stop Out; the order of work is our own).
-use Rattle.std.specs.Prelude.{ℕ, zero, suc, ◌+◌, ◌++◌, Bool, true, false, not, ◌==◌, nat_lt, if◌then◌else◌, List, [], ◌∷◌, length, map, take_while, drop, slice_get, slice_set, Option, Some, None, unwrap_or, ℤ, pos, int_lt}
+use Rattle.std.specs.Prelude.{ℕ, zero, suc, ◌++◌, Bool, true, false, not, ◌==◌, nat_lt, if◌then◌else◌, List, [], ◌∷◌, length, map, take_while, drop, slice_get, slice_set, Option, Some, None, unwrap_or, ℤ, pos}
 use Rattle.std.specs.List.{fold, filter_map}
 use Rattle.std.specs.Option.{option_map, option_map_or}
 use Rattle.market_types.specs.declared.quote.Quote.{Quote}
@@ -13,7 +13,6 @@ use Rattle.account.specs.declared.position.Position.{Position}
 use Rattle.account.specs.declared.event.Event.{Event}
 use Rattle.account.specs.declared.event.Event.TheVariants as event
 use Rattle.account.specs.declared.event.RemovalCause.TheVariants as cause
-use Rattle.account.specs.Deals.{deals}
 use Rattle.account.specs.Firing.{fired_orders, expired_orders, stop_reason}
 use Rattle.account.specs.Keyed.{item}
 use Rattle.account.specs.Orders.{order_ticket, is_stop_limit, orders_in_force}
@@ -163,6 +162,12 @@ position_closed spec prices time_ms why events None = []
 position_closed spec prices time_ms why events (Some p) =
     events_of_fill spec events
     (fill_of_closing (next_of events).deal time_ms (last_prices prices p.symbol) why p)
+
+-- the fill that closes a position that is open
+abbrev pub closing_fill : Quoted → ℤ → DealReason → Option Position → Option Fill
+closing_fill q time_ms why None = None
+closing_fill q time_ms why (Some p) =
+    Some (fill_of_closing (next_of q.events).deal time_ms (last_prices q.prices p.symbol) why p)
 
 -- the position, where it is on a side
 abbrev pub on_side : Bool → Option Position → Option Position

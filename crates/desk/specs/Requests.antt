@@ -1,6 +1,6 @@
 -- What is answered to a request and which events it adds (MQL5 Reference, OrderSend, Trade Request Structure,
 -- Structure of a Trade Request Result).
-use Rattle.std.specs.Prelude.{ℕ, ◌≡◌, ◌+◌, ◌++◌, ◌<◌, ◌≤◌, Bool, true, false, List, [], ◌∷◌, slice_get, ⊤, Option, Some, None, Result, Ok, Err, ℤ, pos}
+use Rattle.std.specs.Prelude.{ℕ, ◌≡◌, ◌+◌, ◌<◌, ◌≤◌, true, false, List, [], ◌∷◌, slice_get, ⊤, Option, Some, None, Result, Ok, Err, ℤ, pos}
 use Rattle.account.specs.declared.account_spec.AccountSpec.{AccountSpec}
 use Rattle.account.specs.declared.deal.Deal.{Deal}
 use Rattle.account.specs.declared.event.Event.{Event}
@@ -21,14 +21,12 @@ use Rattle.judgement.specs.declared.request.Answer.{Answer}
 use Rattle.judgement.specs.declared.request.Request.{Request}
 use Rattle.judgement.specs.declared.return_code.ReturnCode.{ReturnCode}
 use Rattle.judgement.specs.declared.return_code.ReturnCode.TheVariants as code
-use Rattle.judgement.specs.Acts.{act_of}
-use Rattle.judgement.specs.Judge.{refusal}
+use Rattle.judgement.specs.Accept.{todo, refusal_of}
 use Rattle.judgement.specs.Numbers.{code_number}
 use Rattle.desk.specs.declared.fault.DeskFault.{DeskFault}
 use Rattle.desk.specs.declared.fault.DeskFault.TheVariants as desk_fault
 use Rattle.desk.specs.Books.{Kept, with_more, gained, IsFillable, IsPlaceable, IsChangeable, IsPairable}
-use Rattle.positions.specs.Money.{has_money_for}
-use Rattle.desk.specs.State.{Quoted, DeskState, most_requests, have_room}
+use Rattle.desk.specs.State.{Quoted, journal_of, DeskState, most_requests, have_room}
 use Rattle.desk.specs.Tickets.{next_of}
 
 -- the answer to a request, and the events that it adds
@@ -81,27 +79,16 @@ outcome_of spec ps (act.SetStops t sl tp) = done code.Done 0 (event.Stops t sl t
 outcome_of spec ps (act.CloseBy one other at) =
     dealt_outcome at.order (closed_by spec.hedging spec.specs ps one other at)
 
--- whether there is money for what is to be done: a deal asks for it
-abbrev pub money_for : Quoted → Option Act → Bool
-money_for q None = true
-money_for q (Some (act.Deal f)) = has_money_for q.spec q.prices q.events f
-money_for q (Some (act.Place o)) = true
-money_for q (Some (act.Change o)) = true
-money_for q (Some (act.Remove t)) = true
-money_for q (Some (act.SetStops t sl tp)) = true
-money_for q (Some (act.CloseBy one other at)) = true
-
 -- what is to be done for a request where no rule fails
 abbrev pub todo_of : Quoted → ℤ → Request → Option Act
-todo_of q time_ms r =
-    act_of q.spec (orders_in_force q.events) (open_positions q.events) q.prices time_ms (next_of q.events) r
+todo_of q time_ms r = todo (journal_of q) (orders_in_force q.events) q.prices time_ms (next_of q.events) r
 
--- the code of the first rule that fails, where it is told whether there is money
-abbrev pub refusal_by : Quoted → ℤ → Bool → Request → Option ReturnCode
-refusal_by q time_ms money r =
-    refusal q.spec (orders_in_force q.events) (open_positions q.events) q.prices time_ms money r
+-- the code of the first rule that fails, that of money included
+abbrev pub code_for : Quoted → ℤ → Request → Option ReturnCode
+code_for q time_ms r =
+    refusal_of (journal_of q) (orders_in_force q.events) q.prices time_ms (next_of q.events) r
 
--- the outcome by the code of the first rule that fails, and by what is to be done where none does
+-- the outcome by that code, and by what is to be done where there is none; there is something then
 abbrev pub outcome_by : Quoted → Option ReturnCode → Option Act → Outcome
 outcome_by q (Some c) todo = refused c
 outcome_by q None None = refused code.Invalid
@@ -109,8 +96,7 @@ outcome_by q None (Some todo) = outcome_of q.spec (open_positions q.events) todo
 
 -- the outcome of a request at a time
 abbrev pub judged : Quoted → ℤ → Request → Outcome
-judged q time_ms r =
-    outcome_by q (refusal_by q time_ms (money_for q (todo_of q time_ms r)) r) (todo_of q time_ms r)
+judged q time_ms r = outcome_by q (code_for q time_ms r) (todo_of q time_ms r)
 
 -- what a call leaves of the books: the outcome, or nothing where its deals find no room
 abbrev pub Answers : Kept → Outcome → Result Answer DeskFault → Kept → Type 0

@@ -1,6 +1,6 @@
 -- What keeps every number of a desk within its type (own): volumes, accrued swap and nets of deals stay below
 -- bounds that grow with the deals and the days.
-use Rattle.std.specs.Prelude.{◌≡◌, ℕ, ◌+◌, ◌*◌, ◌/◌, ◌^◌, ◌<◌, ◌≤◌, ◌++◌, false, true, List, [], ◌∷◌, length, take, slice_get, is_some, All, FitsSigned, Option, Some, None, IfSome, ⊤, ℤ, pos, ◌+ℤ◌, ◌≤ℤ◌, ◌<ℤ◌, unsigned_abs}
+use Rattle.std.specs.Prelude.{Bool, ◌≡◌, ℕ, ◌+◌, ◌*◌, ◌/◌, ◌^◌, ◌<◌, ◌≤◌, ◌++◌, false, true, List, [], ◌∷◌, length, take, slice_get, is_some, All, FitsSigned, Option, Some, None, IfSome, ⊤, ℤ, pos, ◌+ℤ◌, ◌≤ℤ◌, ◌<ℤ◌, unsigned_abs}
 use Rattle.std.specs.Int.{w64}
 use Rattle.market_types.specs.Ordered.{IsMoment, IsPrice}
 use Rattle.account.specs.declared.account_spec.AccountSpec.{AccountSpec}
@@ -10,14 +10,14 @@ use Rattle.account.specs.declared.position.Position.{Position}
 use Rattle.account.specs.declared.event.Event.{Event}
 use Rattle.account.specs.declared.event.Event.TheVariants as event
 use Rattle.account.specs.Deals.{deals, trading_deals, net}
-use Rattle.account.specs.Journal.{Journal, deposit_deal}
+use Rattle.account.specs.Journal.{deposit_deal}
 use Rattle.account.specs.Keyed.{item}
 use Rattle.account.specs.Orders.{order_ticket, orders_in_force}
 use Rattle.account.specs.Positions.{position_ticket, same_side, is_balance, after_deal, open_positions}
 use Rattle.account.specs.Ranges.{IsAccount, IsHeld, MayDeal}
 use Rattle.account.specs.StopOut.{PriceList, prices_at}
 use Rattle.positions.specs.declared.fill.Fill.{Fill}
-use Rattle.desk.specs.State.{most_deals, most_requests}
+use Rattle.desk.specs.State.{most_deals}
 use Rattle.desk.specs.Tickets.{greater_number, last_order}
 
 -- the day of a time in milliseconds, counted from 1970-01-01
@@ -46,6 +46,7 @@ pub record IsKept (spec : AccountSpec) (prices : PriceList) (times : List (Optio
   pub held : IsHeld p
   pub volume : p.volume ≤ℤ pos (n * most_volume)
   pub swap : unsigned_abs p.swap ≤ 2 ^ 66 * day_at times p.symbol
+  pub from : 0 < p.ticket
   pub ticket : p.ticket ≤ last
 
 -- an order in force: its symbol is one of the list and has prices, its volume is one, its ticket was taken
@@ -60,6 +61,29 @@ pub record IsStanding (spec : AccountSpec) (prices : PriceList) (last : ℕ) (o 
 abbrev pub IsSmall : Deal → Type 0
 IsSmall d = unsigned_abs (net d) ≤ 2 ^ 102
 
+-- an order in force has no ticket of an open position
+abbrev pub AreApart : List Order → List Position → Type 0
+AreApart os ps =
+    (t : ℕ) → is_some (item order_ticket t os) ≡ true → item position_ticket t ps ≡ None
+
+-- each symbol has one position at most
+abbrev pub IsUnique : List Position → Type 0
+IsUnique ps =
+    (t u : ℕ) (p q : Position) → item position_ticket t ps ≡ Some p → item position_ticket u ps ≡ Some q
+    → p.symbol ≡ q.symbol → t ≡ u
+
+-- orders and positions have their own tickets, and under netting each symbol has one position at most
+pub record IsTidy (hedging : Bool) (os : List Order) (ps : List Position) : Type 0 where
+  pub apart : AreApart os ps
+  pub unique : hedging ≡ false → IsUnique ps
+
+-- what a change at a ticket leaves there is of the symbol of what stood there, or where nothing stood of a symbol
+-- that no position has
+pub record IsSole (ps : List Position) (u : ℕ) (new : Option Position) : Type 0 where
+  pub kept : (p q : Position) → item position_ticket u ps ≡ Some p → new ≡ Some q → q.symbol ≡ p.symbol
+  pub sole : (q r : Position) (t : ℕ) → item position_ticket u ps ≡ None → new ≡ Some q →
+      item position_ticket t ps ≡ Some r → r.symbol ≡ q.symbol → ⊥
+
 -- a journal whose numbers stay within their types
 pub record IsSound (spec : AccountSpec) (prices : PriceList) (times : List (Option ℤ))
     (events : List Event) : Type 0 where
@@ -70,6 +94,7 @@ pub record IsSound (spec : AccountSpec) (prices : PriceList) (times : List (Opti
       (open_positions events)
   pub orders : All (IsStanding spec prices (last_order events)) (orders_in_force events)
   pub nets : All IsSmall (trading_deals events)
+  pub tidy : IsTidy spec.hedging (orders_in_force events) (open_positions events)
 
 -- what a deal asks for to be added
 pub record MayTrade (spec : AccountSpec) (prices : PriceList) (times : List (Option ℤ))
@@ -82,6 +107,9 @@ pub record MayTrade (spec : AccountSpec) (prices : PriceList) (times : List (Opt
   pub left : IfSome (after_deal d (item position_ticket d.position (open_positions events)))
       (IsKept spec prices times (greater_number (last_order events) d.order) (length (deals events) + 1))
   pub small : IsSmall d
+  pub alone : item order_ticket d.position (orders_in_force events) ≡ None
+  pub sole : spec.hedging ≡ false → IsSole (open_positions events) d.position
+      (after_deal d (item position_ticket d.position (open_positions events)))
 
 -- what an event asks for to be added
 abbrev pub MayEnter :
@@ -89,6 +117,7 @@ abbrev pub MayEnter :
 MayEnter spec prices times events (event.Added d) = MayTrade spec prices times events d
 MayEnter spec prices times events (event.Placed o) =
     IsStanding spec prices (greater_number (last_order events) o.ticket) o
+    × (item position_ticket o.ticket (open_positions events) ≡ None)
 MayEnter spec prices times events (event.Modified o) = o.symbol < length spec.specs
 MayEnter spec prices times events (event.Removed t cause) = ⊤
 MayEnter spec prices times events (event.Triggered t) = ⊤

@@ -3,6 +3,7 @@ use Rattle.std.specs.Prelude.{ℕ, ◌+◌, Bool, nat_le, List, length, Option, 
 use Rattle.account.specs.declared.account_spec.AccountSpec.{AccountSpec}
 use Rattle.account.specs.declared.event.Event.{Event}
 use Rattle.account.specs.Deals.{deals}
+use Rattle.account.specs.Journal.{Journal}
 use Rattle.account.specs.StopOut.{PriceList}
 
 -- an account and its journal, the last loud Bid and Ask of each symbol, and when they came
@@ -11,6 +12,10 @@ pub record Quoted : Type 0 where
   pub events : List Event
   pub prices : PriceList
   pub times : List (Option ℤ)
+
+-- the account and its journal
+abbrev pub journal_of : Quoted → Journal
+journal_of q = record { spec = q.spec; events = q.events }
 
 -- what contracts see of a desk: what it keeps, how many requests were answered, and whether it is closed, as it
 -- is after want of memory

@@ -6,7 +6,7 @@ ghost use Rattle.account.specs.Journal.{deposit_deal};
 ghost use Rattle.account.specs.Orders.{orders_in_force};
 ghost use Rattle.account.specs.Ranges.{IsAccount};
 ghost use Rattle.desk.specs.Books.{IsRuleOf, IsFillable, IsPlaceable, IsChangeable, IsPairable, with_more, fill_events, pair_events, gained, Kept};
-ghost use Rattle.desk.specs.State.{most_deals};
+ghost use Rattle.desk.specs.State.{most_deals, journal_of};
 ghost use Rattle.desk.specs.Sound.{IsSound, AreQuoted, MayEnter};
 ghost use Rattle.desk.specs.Tickets.{greater_number, last_order, next_of};
 
@@ -141,8 +141,7 @@ impl<P: PositionRule + Drop> Books<P> {
     }
 
     pub(crate) fn ledger(&self) -> &Ledger
-        ensures spec { result.now.spec ≡ self.now.quoted.spec }
-        ensures events { result.now.events ≡ self.now.quoted.events }
+        ensures { result.now ≡ journal_of self.now.quoted }
     {
         self.quoted.ledger()
     }

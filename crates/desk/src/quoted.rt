@@ -5,7 +5,7 @@ ghost use Rattle.account.specs.Deals.{deals};
 ghost use Rattle.account.specs.Ranges.{IsAccount};
 ghost use Rattle.account.specs.Journal.{deposit_deal};
 ghost use Rattle.account.specs.declared.event.Event.TheVariants as event;
-ghost use Rattle.desk.specs.State.{Quoted};
+ghost use Rattle.desk.specs.State.{Quoted, journal_of};
 ghost use Rattle.desk.specs.Sound.{IsSound, AreQuoted, MayEnter, MayFollow};
 
 use account::{AccountSpec, Event, EventList, Ledger, Prices};
@@ -40,6 +40,7 @@ impl Model for QuotedLedger {
 
 impl QuotedLedger {
     /// The account with its deposit, before any quote.
+    #[tactic(auto, using(crate::proofs::Tidy::begun_tidy))]
     pub(crate) fn start(alloc: Global, spec: AccountSpec) -> Result<QuotedLedger, OutOfMemory>
         requires account { IsAccount spec }
         requires symbols { length spec.specs ≤ 255 }
@@ -69,8 +70,7 @@ impl QuotedLedger {
     }
 
     pub(crate) fn ledger(&self) -> &Ledger
-        ensures spec { result.now.spec ≡ self.now.spec }
-        ensures events { result.now.events ≡ self.now.events }
+        ensures { result.now ≡ journal_of self.now }
     {
         &self.ledger
     }

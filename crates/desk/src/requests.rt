@@ -12,15 +12,17 @@ ghost use Rattle.positions.specs.CloseBy.{common, closed_by};
 ghost use Rattle.desk.specs.declared.fault.DeskFault.TheVariants as fault;
 ghost use Rattle.judgement.specs.declared.return_code.ReturnCode.TheVariants as code;
 ghost use Rattle.desk.specs.Books.{IsFillable, IsPlaceable, IsChangeable, IsPairable};
-ghost use Rattle.desk.specs.Requests.{answer_of, pair_answer, done, dealt_outcome, refused, refusal_by, todo_of, money_for, outcome_of, judged, IsReady, Answers};
-ghost use Rattle.desk.specs.Tickets.{last_order};
+ghost use Rattle.desk.specs.State.{journal_of};
+ghost use Rattle.desk.specs.Requests.{answer_of, pair_answer, done, dealt_outcome, outcome_of, judged, IsReady, Answers};
+ghost use Rattle.judgement.specs.Accept.{IsJudged};
+ghost use Rattle.desk.specs.Tickets.{last_order, next_of};
 
 use crate::DeskFault;
 use crate::books::Books;
 use account::{Order, Position, RemovalCause};
 use fx8::{Fix8, OutOfMemory};
-use judgement::{Act, Answer, Request, ReturnCode, act_of, refusal};
-use positions::{Fill, PositionRule, has_money};
+use judgement::{Act, Answer, Judged, Request, ReturnCode, judge_request};
+use positions::{Fill, PositionRule};
 
 /// The answer to a request without a deal.
 fn answer_without(code: ReturnCode, order: u64) -> Answer
@@ -219,52 +221,6 @@ fn do_stops<P: PositionRule + Drop>(
     Ok(answer_without(ReturnCode::Done, 0))
 }
 
-/// The code of the first rule that fails, where it is told whether there is money.
-fn refusal_by<P: PositionRule + Drop>(
-    books: &Books<P>,
-    time_ms: i64,
-    money: bool,
-    request: &Request,
-) -> Option<ReturnCode>
-    requires { books.now.broken ≡ false }
-    ensures { result ≡ refusal_by books.now.quoted time_ms money request.now }
-{
-    books.is_sound();
-    refusal(
-        books.alloc(),
-        books.ledger().spec(),
-        books.orders(),
-        books.rule(),
-        books.prices(),
-        time_ms,
-        money,
-        request,
-    )
-}
-
-/// What is to be done for a request where no rule fails.
-fn todo_of<P: PositionRule + Drop>(
-    books: &Books<P>,
-    time_ms: i64,
-    request: &Request,
-) -> Result<Option<Act>, OutOfMemory>
-    requires whole { books.now.broken ≡ false }
-    requires small { last_order books.now.quoted.events < 2 ^ 63 }
-    ensures { IfOk result (λ todo. todo ≡ todo_of books.now.quoted time_ms request.now) }
-{
-    books.is_sound();
-    act_of(
-        books.alloc(),
-        books.ledger().spec(),
-        books.orders(),
-        books.rule(),
-        books.prices(),
-        time_ms,
-        books.next(),
-        request,
-    )
-}
-
 /// There is no memory: the books are closed for good.
 fn close<P: PositionRule + Drop>(books: &mut Books<P>) -> DeskFault
     ensures fault { result ≡ fault.OutOfMemory }
@@ -291,46 +247,52 @@ fn do_act<P: PositionRule + Drop>(books: &mut Books<P>, act: Act) -> Result<Answ
     }
 }
 
-/// Whether there is money for what is to be done.
-#[tactic(auto, using(crate::proofs::Room::has_room_at, crate::proofs::Room::may_try_at))]
-fn money_for<P: PositionRule + Drop>(books: &Books<P>, act: &Act) -> Result<bool, OutOfMemory>
+/// What is told to a request.
+#[tactic(auto, using(crate::proofs::Room::has_room_at, crate::proofs::Room::fresh_next))]
+fn told<P: PositionRule + Drop>(
+    books: &Books<P>,
+    time_ms: i64,
+    request: &Request,
+) -> Result<Judged, OutOfMemory>
     requires whole { books.now.broken ≡ false }
-    requires ready { IsReady books.now.quoted act.now }
-    ensures { IfOk result (λ money. money ≡ money_for books.now.quoted (Some act.now)) }
+    requires small { last_order books.now.quoted.events < 2 ^ 63 }
+    ensures { IfOk result (IsJudged (journal_of books.now.quoted) (orders_in_force books.now.quoted.events)
+        books.now.quoted.prices time_ms (next_of books.now.quoted.events) request.now) }
 {
-    match act {
-        Act::Deal(fill) => {
-            books.is_sound();
-            has_money(books.alloc(), books.ledger(), books.prices(), fill)
-        }
-        _ => Ok(true),
-    }
+    books.is_sound();
+    judge_request(
+        books.alloc(),
+        books.ledger(),
+        books.orders(),
+        books.rule(),
+        books.prices(),
+        time_ms,
+        books.next(),
+        request,
+    )
 }
 
-/// Does what is to be done, where there is money.
-#[tactic(auto, using(crate::proofs::Paying::done_answers))]
-fn do_paid<P: PositionRule + Drop>(
+/// Does what is told.
+#[tactic(auto, using(crate::proofs::Judged::ready, crate::proofs::Paying::code_answers, crate::proofs::Paying::done_answers))]
+fn do_told<P: PositionRule + Drop>(
     books: &mut Books<P>,
     time_ms: i64,
     request: &Request,
-    act: Act,
+    verdict: Judged,
 ) -> Result<Answer, DeskFault>
     requires whole { books.old.broken ≡ false }
-    requires rules { refusal_by books.old.quoted time_ms true request.now ≡ None }
-    requires todo { todo_of books.old.quoted time_ms request.now ≡ Some act }
-    requires ready { IsReady books.old.quoted act }
+    requires told { IsJudged (journal_of books.old.quoted) (orders_in_force books.old.quoted.events)
+        books.old.quoted.prices time_ms (next_of books.old.quoted.events) request.now verdict }
     ensures { Answers books.old (judged books.old.quoted time_ms request.now) result books.new }
 {
     books.is_sound();
-    match money_for(books, &act) {
-        Err(_) => Err(close(books)),
-        Ok(false) => Ok(answer_without(ReturnCode::NoMoney, 0)),
-        Ok(true) => do_act(books, act),
+    match verdict {
+        Judged::Refused(code) => Ok(answer_without(code, 0)),
+        Judged::Accepted(act) => do_act(books, act),
     }
 }
 
 /// Judges a request, and does it where no rule fails.
-#[tactic(auto, using(crate::proofs::Judged::ready, crate::proofs::Paying::other_answers, crate::proofs::Paying::none_answers))]
 pub(crate) fn answer<P: PositionRule + Drop>(
     books: &mut Books<P>,
     time_ms: i64,
@@ -340,15 +302,8 @@ pub(crate) fn answer<P: PositionRule + Drop>(
     requires small { last_order books.old.quoted.events < 2 ^ 63 }
     ensures { Answers books.old (judged books.old.quoted time_ms request.now) result books.new }
 {
-    books.is_sound();
-    if let Some(code) = refusal_by(books, time_ms, true, request) {
-        return Ok(answer_without(code, 0));
-    }
-    let Ok(todo) = todo_of(books, time_ms, request) else {
+    let Ok(verdict) = told(books, time_ms, request) else {
         return Err(close(books));
     };
-    let Some(act) = todo else {
-        return Ok(answer_without(ReturnCode::Invalid, 0));
-    };
-    do_paid(books, time_ms, request, act)
+    do_told(books, time_ms, request, verdict)
 }

@@ -36,10 +36,20 @@ dimension_form names values (Size v) = size_of (constant_in names values [] v)
 -- a variable of no block, a field, or a parameter
 unfoldable pub variable_form : Names → Values → Variable → VariableForm
 variable_form names values v =
-    record { place = v.place; words = v.words; of = type_form names v.of; name = v.name; dimensions = map (dimension_form names values) v.dimensions }
+    record {
+      place = v.place;
+      words = v.words;
+      of = type_form names v.of;
+      name = v.name;
+      dimensions = map (dimension_form names values) v.dimensions;
+    }
 
 unfoldable pub param_form : Names → Values → Param → ParamForm
-param_form names values q = record { reference = q.reference; has_default = has_default q; variable = variable_form names values q.variable }
+param_form names values q = record {
+  reference = q.reference;
+  has_default = has_default q;
+  variable = variable_form names values q.variable;
+}
 
 abbrev pub result_form : Names → Option TypeUse → Option TypeForm
 result_form names None = None
@@ -47,7 +57,15 @@ result_form names (Some t) = Some (type_form names t)
 
 unfoldable pub function_form : Names → Values → ℕ → Function → FunctionForm
 function_form names values n f =
-    record { place = f.place; item = n; result = result_form names f.result; name = f.name; params = map (param_form names values) f.params; defined = is_defined f.body; event = event_of f }
+    record {
+      place = f.place;
+      item = n;
+      result = result_form names f.result;
+      name = f.name;
+      params = map (param_form names values) f.params;
+      defined = is_defined f.body;
+      event = event_of f;
+    }
 
 -- the fields of a structure
 abbrev pub field_forms : Names → Values → Member → List VariableForm
@@ -55,7 +73,11 @@ field_forms names values (member.Variable a v) = variable_form names values v �
 field_forms names values (member.Function a f) = []
 
 unfoldable pub structure_form : Names → Values → Class → StructureForm
-structure_form names values c = record { place = c.place; name = c.name; fields = flat_map (field_forms names values) c.members }
+structure_form names values c = record {
+  place = c.place;
+  name = c.name;
+  fields = flat_map (field_forms names values) c.members;
+}
 
 -- what items declare, in order; a function and a variable with the place of its item
 abbrev pub item_functions : Names → Values → ℕ → Item → List FunctionForm
@@ -64,10 +86,12 @@ item_functions names values n _ = []
 
 abbrev pub functions_from : Names → Values → ℕ → List Item → List FunctionForm
 functions_from names values n [] = []
-functions_from names values n (i ∷ is) = item_functions names values n i ++ functions_from names values (n + 1) is
+functions_from names values n (i ∷ is) =
+    item_functions names values n i ++ functions_from names values (n + 1) is
 
 abbrev pub item_globals : Names → Values → ℕ → Item → List GlobalForm
-item_globals names values n (item.Variable v) = record { item = n; variable = variable_form names values v } ∷ []
+item_globals names values n (item.Variable v) =
+    record { item = n; variable = variable_form names values v } ∷ []
 item_globals names values n _ = []
 
 abbrev pub globals_from : Names → Values → ℕ → List Item → List GlobalForm

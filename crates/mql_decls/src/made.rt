@@ -30,7 +30,8 @@ fn dimension_form(
     values: &Values<'_>,
     dimension: &Dimension,
 ) -> Result<Option<u32>, OutOfMemory>
-    ensures { IfOk result (λ d. d ≡ spec.dimension_form (meaning names.now) (value_at values.now) dimension.now) }
+    ensures { IfOk result (λ d.
+        d ≡ spec.dimension_form (meaning names.now) (value_at values.now) dimension.now) }
 {
     match dimension {
         Dimension::Open => Ok(None),
@@ -152,7 +153,8 @@ fn with_field(
     mut fields: ItemList<VariableForm>,
     m: &Member,
 ) -> Result<ItemList<VariableForm>, OutOfMemory>
-    ensures { IfOk result (λ new. new ≡ fields ++ spec.field_forms (meaning names.now) (value_at values.now) m.now) }
+    ensures { IfOk result (λ new.
+        new ≡ fields ++ spec.field_forms (meaning names.now) (value_at values.now) m.now) }
 {
     match m {
         Member::Variable(_, v) => {

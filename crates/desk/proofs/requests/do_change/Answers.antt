@@ -1,6 +1,5 @@
 use Rattle.std.proofs.Common.{refl, rules}
 use Rattle.account.specs.declared.event.Event.TheVariants as event
-use Rattle.account.specs.declared.event.RemovalCause.TheVariants as cause
 use Rattle.judgement.specs.declared.return_code.ReturnCode.TheVariants as code
 use Rattle.positions.proofs.Lengths.{of_ok}
 use Rattle.desk.proofs.Outcomes.{quiet_answers}

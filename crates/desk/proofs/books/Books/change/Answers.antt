@@ -1,6 +1,5 @@
-use Rattle.std.proofs.Common.{◌≡◌, ◌∙◌, false, refl, ap, sym, rules}
+use Rattle.std.proofs.Common.{◌∙◌, refl, ap, rules}
 use Rattle.account.specs.declared.event.Event.TheVariants as event
-use Rattle.account.specs.Orders.{orders_after}
 use Rattle.desk.specs.Books.{Kept}
 use Rattle.desk.proofs.Stepping.{step_quiet, of_modified}
 use Rattle.desk.proofs.books.Books.change.Goals as goal

@@ -1,8 +1,7 @@
-use Rattle.std.proofs.Common.{◌≡◌, ◌∙◌, false, refl, ap, sym, rules}
+use Rattle.std.proofs.Common.{◌∙◌, refl, ap}
 use Rattle.account.specs.declared.event.Event.TheVariants as event
-use Rattle.account.specs.Orders.{orders_after}
 use Rattle.desk.specs.Books.{Kept}
-use Rattle.desk.proofs.Stepping.{step_quiet, of_modified}
+use Rattle.desk.proofs.Stepping.{step_quiet}
 use Rattle.desk.proofs.books.Books.remove.Goals as goal
 
 pub invariant_of-self-2 : goal.invariant_of-self-2

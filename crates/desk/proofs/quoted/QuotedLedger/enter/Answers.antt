@@ -1,4 +1,4 @@
-use Rattle.std.proofs.Common.{◌≡◌, ◌++◌, ◌∷◌, [], sym, subst, rules}
+use Rattle.std.proofs.Common.{sym, subst, rules}
 use Rattle.desk.specs.State.{Quoted}
 use Rattle.desk.specs.Sound.{MayEnter}
 use Rattle.desk.proofs.Entered.{types_kept, within_more, sound_entered}
