@@ -23,7 +23,11 @@ fn sources_of(alloc: Global, case: &Case) -> Result<Sources, OutOfMemory> {
 
 /// A token in one word or more: with `exact` every unit and kind of it, else as it is spelled.
 fn shown(alloc: Global, token: &Token, exact: bool) -> Result<String, OutOfMemory> {
-    if exact { exactly(alloc, token) } else { spelled(alloc, token) }
+    if exact {
+        exactly(alloc, token)
+    } else {
+        spelled(alloc, token)
+    }
 }
 
 /// A token with its units and its kind.
@@ -147,7 +151,12 @@ pub fn parsed(alloc: Global, case: &Case, shown: bool) -> Result<String, OutOfMe
 
 /// Adds parts to a line, parted by blanks.
 #[cycle(show)]
-fn show_all(alloc: Global, tokens: &Tokens, parts: &[Tree], line: &mut String) -> Result<(), OutOfMemory> {
+fn show_all(
+    alloc: Global,
+    tokens: &Tokens,
+    parts: &[Tree],
+    line: &mut String,
+) -> Result<(), OutOfMemory> {
     let mut first = true;
     for part in parts {
         if !first {
