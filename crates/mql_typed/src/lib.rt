@@ -2,5 +2,10 @@
 #![tactic(auto)]
 
 mod info;
+mod typed;
 
 pub use info::{Info, Standing};
+pub use typed::{
+    a_place, a_value, condition, converted, into_sort, nothing, on_one, on_two, single, value_base,
+    value_of, var_type,
+};
