@@ -86,7 +86,8 @@ pub record Given : Type 0 where
 
 -- supplied structures: their fields are accessible
 abbrev pub supplied_field : natives.Field → Field
-supplied_field f = record { name = field_spelling f.name; of = single (base.Simple f.kind); accessible = true }
+supplied_field f =
+    record { name = field_spelling f.name; of = single (base.Simple f.kind); accessible = true }
 
 abbrev pub supplied_layout : SuppliedType → Structure → Layout
 supplied_layout t s = record { name = supplied_spelling t; fields = map supplied_field (fields_of s) }
@@ -598,7 +599,8 @@ abbrev pub told_in : Program → List Item → List Variable → List Function �
 told_in p items vs fs = told (all_broken p items (globals_begin p 0 0 vs) (bodies p (length vs) fs))
 
 abbrev pub told_broken : Given → List Item → Option Broken
-told_broken g items = told_in (program_of g items) items (flat_map variables_in items) (flat_map functions_in items)
+told_broken g items =
+    told_in (program_of g items) items (flat_map variables_in items) (flat_map functions_in items)
 
 abbrev pub judged : Option Broken → Checked → Result Checked Broken
 judged None x = Ok x
