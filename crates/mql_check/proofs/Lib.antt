@@ -1,0 +1,4 @@
+mod Words
+mod ValueSamples
+mod StatementSamples
+mod ProgramSamples

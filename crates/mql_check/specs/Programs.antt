@@ -1,0 +1,616 @@
+-- A whole program: what its names stand for, its functions, its variables that begin before the first event, and
+-- the rule that is told or the typed program (MQL5 Reference, Language Basics, Functions; Variables, Input
+-- Variables; Enumerations; Event Handling). So far for programs without classes, interfaces, templates and methods.
+use Rattle.std.specs.Prelude.{ℕ, zero, ◌+◌, ◌+ℤ◌, suc, ℤ, pos, Bool, true, false, not, ◌&&◌, ◌||◌, ◌==◌, List, [], ◌∷◌, ◌++◌, length, map, flat_map, codes, Option, Some, None, is_some, is_none, option_map, slice_get, bytes_eq, if◌then◌else◌, Result, Ok, Err}
+use Rattle.fx8.specs.declared.int_kind.IntKind.TheVariants as int_kind
+use Rattle.fx8.specs.Integers.{wrapped}
+use Rattle.natives.specs.declared.types.SimpleType.TheVariants as simple
+use Rattle.natives.specs.declared.types.Structure.{Structure}
+use Rattle.natives.specs.declared.types.Structure.TheVariants as supplied
+use Rattle.natives.specs.declared.supplied.SuppliedType.TheVariants as supplieds
+use Rattle.natives.specs.declared.supplied.SuppliedType.{SuppliedType}
+use Rattle.natives.specs.declared.field.Field as natives
+use Rattle.natives.specs.Structures.{supplied_spelling, field_spelling, fields_of}
+use Rattle.mql_mean.specs.declared.value.Value.{Value}
+use Rattle.mql_mean.specs.declared.value.Value.TheVariants as value
+use Rattle.mql_meaning.specs.declared.types.VarType.{VarType}
+use Rattle.mql_meaning.specs.declared.tree.Member.{Member}
+use Rattle.mql_meaning.specs.declared.tree.Function as typed
+use Rattle.mql_meaning.specs.declared.tree.Statement as statement
+use Rattle.mql_meaning.specs.declared.tree.Class as typed_class
+use Rattle.mql_meaning.specs.declared.tree.Input.{Input}
+use Rattle.mql_meaning.specs.declared.tree.Checked.{Checked}
+use Rattle.mql_meaning.specs.declared.tree.Entries.{Entries}
+use Rattle.mql_meaning.specs.Places.{number_of}
+use Rattle.mql_syntax.specs.declared.value.Value as syntax
+use Rattle.mql_syntax.specs.declared.kind.Place.{Place}
+use Rattle.mql_syntax.specs.declared.kind.Access.{Access}
+use Rattle.mql_syntax.specs.declared.kind.Access.TheVariants.{Public, Protected, Private}
+use Rattle.mql_syntax.specs.declared.statement.Statement.{Statement}
+use Rattle.mql_syntax.specs.declared.declaration.Variable.{Variable}
+use Rattle.mql_syntax.specs.declared.declaration.Dimension.{Dimension}
+use Rattle.mql_syntax.specs.declared.declaration.Dimension.TheVariants.{Open, Size}
+use Rattle.mql_syntax.specs.declared.declaration.Start.{Start}
+use Rattle.mql_syntax.specs.declared.declaration.Start.TheVariants as start
+use Rattle.mql_syntax.specs.declared.declaration.Param.{Param}
+use Rattle.mql_syntax.specs.declared.declaration.Body.{Body}
+use Rattle.mql_syntax.specs.declared.declaration.Body.TheVariants as body
+use Rattle.mql_syntax.specs.declared.declaration.Function.{Function}
+use Rattle.mql_syntax.specs.declared.declaration.Enumerator.{Enumerator}
+use Rattle.mql_syntax.specs.declared.declaration.Enumeration as syntax_enumeration
+use Rattle.mql_syntax.specs.declared.declaration.Member as class_member
+use Rattle.mql_syntax.specs.declared.declaration.Member.TheVariants as members
+use Rattle.mql_syntax.specs.declared.declaration.Class.{Class}
+use Rattle.mql_syntax.specs.declared.declaration.Item.{Item}
+use Rattle.mql_syntax.specs.declared.declaration.Item.TheVariants as item
+use Rattle.mql_syntax.specs.declared.declaration.Syntax.{Syntax}
+use Rattle.mql_names.specs.declared.fault.Broken.{Broken}
+use Rattle.mql_names.specs.declared.event.Event.{Event}
+use Rattle.mql_names.specs.declared.event.Event.TheVariants as event
+use Rattle.mql_names.specs.Faults.{told}
+use Rattle.mql_names.specs.Events.{event_name}
+use Rattle.mql_names.specs.Meanings.{names_of}
+use Rattle.mql_names.specs.Things.{body_parts}
+use Rattle.mql_names.specs.Types.{Names, param_keys, is_defined}
+use Rattle.mql_types.specs.declared.types.Base.{Base}
+use Rattle.mql_types.specs.declared.types.Base.TheVariants as base
+use Rattle.mql_types.specs.declared.types.DataType.{DataType}
+use Rattle.mql_types.specs.declared.overloads.Parameter.{Parameter}
+use Rattle.mql_types.specs.declared.overloads.Signature.{Signature}
+use Rattle.mql_types.specs.Types.{is_array}
+use Rattle.mql_check.specs.declared.context.Known.{Known}
+use Rattle.mql_check.specs.declared.context.Storage.TheVariants as storage
+use Rattle.mql_check.specs.declared.context.Field.{Field}
+use Rattle.mql_check.specs.declared.context.Layout.{Layout}
+use Rattle.mql_check.specs.declared.context.Enumeration.{Enumeration}
+use Rattle.mql_typed.specs.declared.info.Info.{Info}
+use Rattle.mql_typed.specs.declared.info.Standing.{Standing}
+use Rattle.mql_typed.specs.declared.info.Standing.TheVariants as stand
+use Rattle.mql_check.specs.Contexts.{Text, Program, Context, behind, written}
+use Rattle.mql_typed.specs.Typed.{single, value_base, var_type}
+use Rattle.mql_check.specs.Nodes.{passes}
+use Rattle.mql_check.specs.Names.{stands_at}
+use Rattle.mql_check.specs.Rules.{no_fit}
+use Rattle.mql_check.specs.Values.{found, broken_at, innermost}
+use Rattle.mql_check.specs.Initialisers.{Begun, started, start_constant}
+use Rattle.mql_check.specs.Closing.{closes}
+use Rattle.mql_check.specs.Statements.{Told, Static, declared_standing, variable_type, evaluated, told_all}
+
+-- What typing takes from elsewhere: the constant that an expression is, if it is one, by what the names of the
+-- program mean and the members of its enumerations; a constant taken into a type; the line and the file of a node.
+pub record Given : Type 0 where
+  pub constant : syntax.Value → Option Value
+  pub as_type : Base → Value → Option Value
+  pub line : Place → ℕ
+  pub file : Place → Text
+
+-- supplied structures: their fields are accessible
+abbrev pub supplied_field : natives.Field → Field
+supplied_field f =
+    record { name = field_spelling f.name; of = single (base.Simple f.kind); accessible = true }
+
+abbrev pub supplied_layout : SuppliedType → Structure → Layout
+supplied_layout t s = record { name = supplied_spelling t; fields = map supplied_field (fields_of s) }
+
+abbrev pub supplied_layouts : List Layout
+supplied_layouts =
+    supplied_layout supplieds.MqlTradeRequest supplied.MqlTradeRequest ∷
+    supplied_layout supplieds.MqlTradeResult supplied.MqlTradeResult ∷
+    supplied_layout supplieds.MqlTick supplied.MqlTick ∷
+    supplied_layout supplieds.MqlRates supplied.MqlRates ∷
+    supplied_layout supplieds.MqlDateTime supplied.MqlDateTime ∷ []
+
+-- the names of structures and of enumerations come before their parts
+abbrev pub structure_name : Item → List Text
+structure_name (item.Class c) = if c.defined then c.name ∷ [] else []
+structure_name _ = []
+
+abbrev pub enumeration_name : Item → List Text
+enumeration_name (item.Enumeration e) = e.name ∷ []
+enumeration_name _ = []
+
+abbrev pub named_layout : Text → Layout
+named_layout x = record { name = x; fields = [] }
+
+abbrev pub named_enumeration : Text → Enumeration
+named_enumeration x = record { name = x; members = [] }
+
+-- a program with what its types are called, and nothing else yet
+abbrev pub of_types : Given → List Item → Program
+of_types g items =
+    record {
+      names = names_of items;
+      structures = supplied_layouts ++ map named_layout (flat_map structure_name items);
+      enumerations = map named_enumeration (flat_map enumeration_name items);
+      globals = [];
+      functions = [];
+      default = λ n k. None;
+      constant = g.constant;
+      line = g.line;
+      file = g.file;
+    }
+
+-- structures with their fields
+abbrev pub is_public : Access → Bool
+is_public Public = true
+is_public Protected = false
+is_public Private = false
+
+abbrev pub field_with : Access → Variable → Option DataType → List Field
+field_with a v None = []
+field_with a v (Some t) = record { name = v.name; of = t; accessible = is_public a } ∷ []
+
+abbrev pub field : Program → class_member.Member → List Field
+field p (members.Variable a v) = field_with a v (variable_type p v)
+field p (members.Function a f) = []
+
+abbrev pub layout : Program → Item → List Layout
+layout p (item.Class c) =
+    if c.defined then record { name = c.name; fields = flat_map (field p) c.members } ∷ [] else []
+layout p _ = []
+
+-- enumerations: a member without a value has one more than the one before it, the first has 0
+abbrev pub numbered : Program → Option syntax.Value → ℤ → ℤ
+numbered p None next = next
+numbered p (Some v) next =
+    elim (p.constant v) [ None ↦ next | Some x ↦ elim (number_of x) [ None ↦ next | Some n ↦ n ] ]
+
+abbrev pub member : Text → ℤ → Member
+member x n = record { name = x; value = wrapped int_kind.Int n }
+
+abbrev pub members_from : Program → ℤ → List Enumerator → List Member
+members_from p next [] = []
+members_from p next (e ∷ es) =
+    let n = numbered p e.value next in
+    member e.name n ∷ members_from p (n +ℤ pos 1) es
+
+abbrev pub enumeration : Program → Item → List Enumeration
+enumeration p (item.Enumeration e) = record { name = e.name; members = members_from p (pos 0) e.values } ∷ []
+enumeration p _ = []
+
+-- global variables in their order
+abbrev pub is_input : Variable → Bool
+is_input v = v.words.is_input || v.words.is_static_input
+
+abbrev pub variables_in : Item → List Variable
+variables_in (item.Variable v) = v ∷ []
+variables_in _ = []
+
+abbrev pub global_standing : Variable → Standing
+global_standing v = if is_input v then stand.Input else declared_standing v
+
+abbrev pub global_known : Variable → ℕ → DataType → Known
+global_known v n t =
+    record { name = v.name; of = t; stands = storage.Global n; standing = global_standing v }
+
+abbrev pub int_type : DataType
+int_type = single (base.Simple (simple.Integer int_kind.Int))
+
+-- a variable of `void` is told elsewhere
+abbrev pub type_or_int : Option DataType → DataType
+type_or_int None = int_type
+type_or_int (Some t) = t
+
+abbrev pub global_type : Program → Variable → DataType
+global_type p v = type_or_int (variable_type p v)
+
+abbrev pub globals_from : Program → ℕ → List Variable → List Known
+globals_from p n [] = []
+globals_from p n (v ∷ vs) = global_known v n (global_type p v) ∷ globals_from p (n + 1) vs
+
+-- functions that have a body, in their order
+abbrev pub functions_in : Item → List Function
+functions_in (item.Function f) = if is_defined f.body then f ∷ [] else []
+functions_in _ = []
+
+abbrev pub announced_in : Item → List Function
+announced_in (item.Function f) = if is_defined f.body then [] else f ∷ []
+announced_in _ = []
+
+abbrev pub has_start : Start → Bool
+has_start start.Zero = false
+has_start _ = true
+
+-- a default stands at the parameter, or where the function is announced
+abbrev pub start_at : ℕ → List Param → Start
+start_at n [] = start.Zero
+start_at zero (q ∷ qs) = q.variable.start
+start_at (suc n) (q ∷ qs) = start_at n qs
+
+abbrev pub is_one_function : Names → Function → Function → Bool
+is_one_function names f g =
+    bytes_eq f.name g.name && bytes_eq (param_keys names f.params) (param_keys names g.params)
+
+abbrev pub announced_start : Names → Function → ℕ → List Function → Start
+announced_start names f k [] = start.Zero
+announced_start names f k (g ∷ gs) =
+    if is_one_function names f g && has_start (start_at k g.params) then start_at k g.params
+    else announced_start names f k gs
+
+abbrev pub default_start : Names → List Function → Function → ℕ → Start
+default_start names announced f k =
+    if has_start (start_at k f.params) then start_at k f.params else announced_start names f k announced
+
+abbrev pub parameter_from : Program → List Function → Function → ℕ → List Param → List Parameter
+parameter_from p announced f k [] = []
+parameter_from p announced f k (q ∷ qs) =
+    record {
+      of = global_type p q.variable;
+      reference = q.reference;
+      constant = q.variable.words.is_const;
+      optional = has_start (default_start p.names announced f k);
+    }
+    ∷ parameter_from p announced f (k + 1) qs
+
+abbrev pub result_of : Program → Function → Option Base
+result_of p f = elim (f.result) [ None ↦ None | Some t ↦ written p t ]
+
+abbrev pub signatures_from : Program → List Function → ℕ → List Function → List Signature
+signatures_from p announced n [] = []
+signatures_from p announced n (f ∷ fs) =
+    record {
+      name = f.name;
+      number = n;
+      parameters = parameter_from p announced f 0 f.params;
+      result = result_of p f;
+    }
+    ∷ signatures_from p announced (n + 1) fs
+
+-- the constant that a default is
+abbrev pub constant_start : Program → Start → Option Value
+constant_start p (start.Value v) = p.constant v
+constant_start p _ = None
+
+abbrev pub default_of : Program → List Function → List Function → ℕ → ℕ → Option Value
+default_of p announced functions n k =
+    elim (slice_get functions n) [
+      | None ↦ None
+      | Some f ↦ constant_start p (default_start p.names announced f k)
+    ]
+
+-- what is known of a program
+abbrev pub with_types : List Item → Program → Program
+with_types items p =
+    record p {
+      structures = supplied_layouts ++ flat_map (layout p) items;
+      enumerations = flat_map (enumeration p) items;
+    }
+
+abbrev pub with_things : List Item → Program → Program
+with_things items p =
+    let functions = flat_map functions_in items in
+    let announced = flat_map announced_in items in
+    record p {
+      globals = globals_from p 0 (flat_map variables_in items);
+      functions = signatures_from p announced 0 functions;
+      default = default_of p announced functions;
+    }
+
+unfoldable pub program_of : Given → List Item → Program
+program_of g items = with_things items (with_types items (of_types g items))
+
+-- where an expression outside functions stands
+abbrev pub outside : Program → ℕ → ℕ → Context
+outside p next statics =
+    record {
+      program = p;
+      function = [];
+      result = None;
+      breaks = false;
+      continues = false;
+      locals = [];
+      next = next;
+      statics = statics;
+    }
+
+-- 36 an initialiser of an input is not constant, or an input is an array or of another type
+abbrev pub is_simple_type : Base → Bool
+is_simple_type (base.Structure n) = false
+is_simple_type _ = true
+
+abbrev pub no_input : Program → Variable → DataType → Bool
+no_input p v t =
+    is_input v && (not (start_constant p v.start) || (is_array t.dimensions || not (is_simple_type t.base)))
+
+-- 23 a variable of `void`
+abbrev pub global_rule : Program → Variable → Option ℕ
+global_rule p v =
+    elim (variable_type p v) [
+      | None ↦ Some 23
+      | Some t ↦ if no_input p v t then Some 36 else None
+    ]
+
+-- the expressions in the dimensions
+abbrev pub dimension_broken : Program → Dimension → List Broken
+dimension_broken p Open = []
+dimension_broken p (Size v) = (found (outside p 0 0) v).broken
+
+abbrev pub dimensions_broken : Program → Variable → List Broken
+dimensions_broken p v = flat_map (dimension_broken p) v.dimensions
+
+-- what is broken at a node and below it in one of its variables
+pub record Owned : Type 0 where
+  pub place : Place
+  pub broken : List Broken
+
+abbrev pub broken_of : Owned → List Broken
+broken_of o = o.broken
+
+abbrev pub at_place : Place → List Owned → List Broken
+at_place p [] = []
+at_place p (o ∷ os) = (if o.place.at == p.at then o.broken else []) ++ at_place p os
+
+-- variables of one declaration are at one node
+abbrev pub by_place : List Owned → List Owned → List Broken
+by_place all [] = []
+by_place all (o ∷ os) = innermost o.place (at_place o.place all) ++ by_place all os
+
+-- what the globals begin with, one after another, in a function of their own; an input gets its default elsewhere
+pub record Beginning : Type 0 where
+  pub steps : List statement.Statement
+  pub kept : List VarType
+  pub broken : List Owned
+
+abbrev pub owned : Variable → List Broken → Owned
+owned v bs = record { place = v.place; broken = bs }
+
+abbrev pub global_steps : Program → Variable → Begun → List statement.Statement
+global_steps p v b = if is_input v then [] else evaluated (p.line v.place) b.steps
+
+abbrev pub global_begun : Program → ℕ → ℕ → Variable → Begun
+global_begun p next n v =
+    started (outside p next 0) v.place (stands_at (storage.Global n)) (global_type p v) v.start
+
+abbrev pub globals_begin : Program → ℕ → ℕ → List Variable → Beginning
+globals_begin p next n [] = record { steps = []; kept = []; broken = [] }
+globals_begin p next n (v ∷ vs) =
+    let b = global_begun p next n v in
+    let rest = globals_begin p (next + length b.kept) (n + 1) vs in
+    record {
+      steps = global_steps p v b ++ rest.steps;
+      kept = b.kept ++ rest.kept;
+      broken = owned v (dimensions_broken p v ++ (b.broken ++ broken_at v.place (global_rule p v)))
+          ∷ rest.broken;
+    }
+
+-- parameters are the first locals
+abbrev pub params_known : Program → ℕ → List Param → List Known
+params_known p n [] = []
+params_known p n (q ∷ qs) =
+    record {
+      name = q.variable.name;
+      of = global_type p q.variable;
+      stands = storage.Local n;
+      standing = declared_standing q.variable;
+    }
+    ∷ params_known p (n + 1) qs
+
+abbrev pub param_type : Program → Param → VarType
+param_type p q = var_type (global_type p q.variable)
+
+abbrev pub is_reference : Param → Bool
+is_reference q = q.reference
+
+-- 13 a default has no conversion to its parameter, 36 it is not constant
+abbrev pub default_rule : Program → Param → Option ℕ
+default_rule p q = elim (q.variable.start) [
+  | start.Zero ↦ None
+  | start.Value v ↦ value_rule v
+  | start.Arguments vs ↦ Some 36
+]
+  where
+    value_rule : syntax.Value → Option ℕ
+    value_rule v =
+        if passes (λ (i : Info). passes (no_fit (global_type p q.variable).base) (value_base i))
+        ((found (outside p 0 0) v).info)
+        then Some 13
+        else if is_none (p.constant v) then Some 36
+        else None
+
+abbrev pub start_broken : Program → Start → List Broken
+start_broken p (start.Value v) = (found (outside p 0 0) v).broken
+start_broken p _ = []
+
+abbrev pub param_broken : Program → Param → List Broken
+param_broken p q =
+    innermost q.variable.place
+    (dimensions_broken p q.variable
+    ++ (start_broken p q.variable.start ++ broken_at q.variable.place (default_rule p q)))
+
+-- a function's body
+abbrev pub function_context : Program → ℕ → Function → Context
+function_context p statics f =
+    record {
+      program = p;
+      function = f.name;
+      result = result_of p f;
+      breaks = false;
+      continues = false;
+      locals = params_known p 0 f.params;
+      next = length f.params;
+      statics = statics;
+    }
+
+abbrev pub body_told : Program → ℕ → Function → Told
+body_told p statics f = told_all (function_context p statics f) (body_parts f.body)
+
+-- 40 a function with a result whose end can be reached
+abbrev pub body_closes : Body → Bool
+body_closes (body.Block s) = closes s
+body_closes _ = true
+
+abbrev pub end_reached : Program → Function → Bool
+end_reached p f = is_some (result_of p f) && not (body_closes f.body)
+
+abbrev pub function_rule : Program → Function → Option ℕ
+function_rule p f = if end_reached p f then Some 40 else None
+
+abbrev pub function_broken : Program → Function → Told → List Broken
+function_broken p f t =
+    innermost f.place
+    (flat_map (param_broken p) f.params ++ (t.broken ++ broken_at f.place (function_rule p f)))
+
+abbrev pub typed_function : Program → Function → Told → typed.Function
+typed_function p f t =
+    record {
+      name = f.name;
+      class = None;
+      makes = false;
+      lent = map is_reference f.params;
+      locals = map (param_type p) f.params ++ t.kept;
+      result = option_map (λ b. var_type (single b)) (result_of p f);
+      body = t.typed;
+    }
+
+-- the functions, their static variables from a number on, and what is broken in them
+pub record Bodies : Type 0 where
+  pub functions : List typed.Function
+  pub statics : List Static
+  pub broken : List Broken
+
+abbrev pub bodies : Program → ℕ → List Function → Bodies
+bodies p statics [] = record { functions = []; statics = []; broken = [] }
+bodies p statics (f ∷ fs) =
+    let t = body_told p statics f in
+    let rest = bodies p (statics + length t.statics) fs in
+    record {
+      functions = typed_function p f t ∷ rest.functions;
+      statics = t.statics ++ rest.statics;
+      broken = function_broken p f t ++ rest.broken;
+    }
+
+-- what is broken in enumerations and structures: 36 a member's value is not constant
+abbrev pub enumerator_rule : Program → syntax.Value → Option ℕ
+enumerator_rule p v = if is_none (p.constant v) then Some 36 else None
+
+abbrev pub enumerator_broken : Program → Place → Enumerator → List Broken
+enumerator_broken p place e =
+    elim (e.value) [
+      | None ↦ []
+      | Some v ↦ innermost place ((found (outside p 0 0) v).broken ++ broken_at place (enumerator_rule p v))
+    ]
+
+abbrev pub member_broken : Program → class_member.Member → List Owned
+member_broken p (members.Variable a v) = owned v (dimensions_broken p v) ∷ []
+member_broken p (members.Function a f) = []
+
+abbrev pub members_broken : List Owned → List Broken
+members_broken os = by_place os os
+
+abbrev pub item_broken : Program → Item → List Broken
+item_broken p (item.Enumeration e) = innermost e.place (flat_map (enumerator_broken p e.place) e.values)
+item_broken p (item.Class c) = members_broken (flat_map (member_broken p) c.members)
+item_broken p _ = []
+
+-- inputs
+abbrev pub zero_value : Base → Value
+zero_value (base.Simple (simple.Integer k)) = value.Num k (pos 0)
+zero_value (base.Simple simple.Double) = value.Dbl (pos 0)
+zero_value (base.Simple simple.String) = value.Str []
+zero_value _ = value.Num int_kind.Int (pos 0)
+
+abbrev pub as_type_or_zero : Given → Base → Value → Value
+as_type_or_zero g b x = elim (g.as_type b x) [ None ↦ zero_value b | Some y ↦ y ]
+
+abbrev pub start_value : Given → Base → Start → Value
+start_value g b (start.Value v) = elim (g.constant v) [ None ↦ zero_value b | Some x ↦ as_type_or_zero g b x ]
+start_value g b _ = zero_value b
+
+abbrev pub members_of : Program → Base → List Member
+members_of p (base.Enumeration n) = elim (slice_get p.enumerations n) [ None ↦ [] | Some e ↦ e.members ]
+members_of p _ = []
+
+abbrev pub input : Given → Program → ℕ → Variable → Input
+input g p n v =
+    let b = (global_type p v).base in
+    record {
+      global = n;
+      name = v.name;
+      optimisable = v.words.is_input;
+      default = start_value g b v.start;
+      members = members_of p b;
+    }
+
+abbrev pub inputs_from : Given → Program → ℕ → List Variable → List Input
+inputs_from g p n [] = []
+inputs_from g p n (v ∷ vs) =
+    if is_input v then input g p n v ∷ inputs_from g p (n + 1) vs else inputs_from g p (n + 1) vs
+
+-- structures as the meaning has them
+abbrev pub field_type : Field → VarType
+field_type f = var_type f.of
+
+abbrev pub class_of : Layout → typed_class.Class
+class_of l =
+    record { name = l.name; parent = None; fields = map field_type l.fields; methods = []; destructor = None }
+
+-- the functions that are called at the beginning and at the end
+abbrev pub own_function : List VarType → List statement.Statement → typed.Function
+own_function locals steps =
+    record { name = []; class = None; makes = false; lent = []; locals = locals; result = None; body = steps }
+
+abbrev pub static_steps : Static → List statement.Statement
+static_steps s = evaluated s.line s.steps
+
+abbrev pub static_type : Static → VarType
+static_type s = s.of
+
+abbrev pub known_type : Known → VarType
+known_type k = var_type k.of
+
+-- the number of the function of an event
+abbrev pub number_of_name : Text → List Signature → Option ℕ
+number_of_name x [] = None
+number_of_name x (f ∷ fs) = if bytes_eq f.name x then Some f.number else number_of_name x fs
+
+abbrev pub event_function : Program → Event → Option ℕ
+event_function p e = number_of_name (event_name e) p.functions
+
+abbrev pub entries : Program → Entries
+entries p =
+    record {
+      start = Some (length p.functions);
+      init = event_function p event.Init;
+      tick = event_function p event.Tick;
+      trade = event_function p event.Trade;
+      tester = event_function p event.Tester;
+      deinit = event_function p event.Deinit;
+      stop = Some (length p.functions + 1);
+    }
+
+abbrev pub checked : Given → Program → List Variable → Beginning → Bodies → Checked
+checked g p vs b fs =
+    record {
+      classes = map class_of p.structures;
+      functions = fs.functions
+          ++ own_function b.kept (b.steps ++ flat_map static_steps fs.statics) ∷ own_function [] [] ∷ [];
+      globals = map known_type p.globals ++ map static_type fs.statics;
+      inputs = inputs_from g p 0 vs;
+      entries = entries p;
+    }
+
+-- all rules that may be told
+abbrev pub all_broken : Program → List Item → Beginning → Bodies → List Broken
+all_broken p items b fs = flat_map (item_broken p) items ++ (by_place b.broken b.broken ++ fs.broken)
+
+-- the broken rule that is told, if there is any: that of the first node in the order of tokens among those that
+-- break a rule while none below them breaks one, and the lowest that it breaks
+abbrev pub told_in : Program → List Item → List Variable → List Function → Option Broken
+told_in p items vs fs = told (all_broken p items (globals_begin p 0 0 vs) (bodies p (length vs) fs))
+
+abbrev pub told_broken : Given → List Item → Option Broken
+told_broken g items =
+    told_in (program_of g items) items (flat_map variables_in items) (flat_map functions_in items)
+
+abbrev pub judged : Option Broken → Checked → Result Checked Broken
+judged None x = Ok x
+judged (Some e) x = Err e
+
+abbrev pub typed_program : Given → Program → List Variable → List Function → Checked
+typed_program g p vs fs = checked g p vs (globals_begin p 0 0 vs) (bodies p (length vs) fs)
+
+-- the typed program, or the broken rule that is told
+unfoldable pub check : Given → Syntax → Result Checked Broken
+check g s =
+    judged (told_broken g s.items)
+    (typed_program g (program_of g s.items) (flat_map variables_in s.items) (flat_map functions_in s.items))

@@ -1,0 +1,4 @@
+pub mod Types
+pub mod Conversions
+pub mod Operators
+pub mod Overloads
