@@ -20,6 +20,7 @@ use Rattle.mql_sizes.specs.declared.member.EnumMembers.{EnumMembers}
 use Rattle.mql_sizes.specs.declared.member.MemberValue.{MemberValue}
 use Rattle.mql_sizes.specs.Members.{Values, enumerations_of, all_members, value_among, valueless}
 use Rattle.mql_sizes.specs.Sizes.{sizes, breaks_in}
+use Rattle.mql_nesting.specs.Nesting.{breaks_nesting}
 use Rattle.mql_sizes.specs.Maps.{value_at, Holds}
 use Rattle.mql_sizes.proofs.Held.{same_values}
 use Rattle.mql_decls.specs.declared.forms.StructureForm.{StructureForm}
@@ -47,11 +48,13 @@ of_constants names s items es m r a b e h held k l t =
     ∙ sym (told_append (flat_map valueless es) (flat_map (sizes names (value_among (all_members es))) (walk.things_of s)))
     ∙ ap (λ xs. full xs es) p ∙ ap (full (enumerations_of names [] s.items)) p
 
-pub of_all : (names : Names) (s : Syntax) (r a b : Option Broken) → a ≡ told_of names (things_of names s) → b ≡ told (breaks_in names s) → r ≡ sooner a b
-    → r ≡ told (all_breaks names s)
-of_all names s r a b h k t =
-    t ∙ ap (λ x. sooner x b) h ∙ ap (sooner (told_of names (things_of names s))) k
-    ∙ sym (told_append (flat_map (breaks names) (things_of names s)) (breaks_in names s))
+pub of_all : (names : Names) (s : Syntax) (r q a b c : Option Broken) → a ≡ told_of names (things_of names s) → b ≡ told (breaks_in names s)
+    → c ≡ told (breaks_nesting s) → q ≡ sooner a b → r ≡ sooner q c → r ≡ told (all_breaks names s)
+of_all names s r q a b c h k l u t =
+    let first : List Broken = flat_map (breaks names) (things_of names s) in
+    let both : q ≡ told (first ++ breaks_in names s) =
+    u ∙ ap (λ x. sooner x b) h ∙ ap (sooner (told first)) k ∙ sym (told_append first (breaks_in names s)) in
+    t ∙ ap (λ x. sooner x c) both ∙ ap (sooner (told (first ++ breaks_in names s))) l ∙ sym (told_append (first ++ breaks_in names s) (breaks_nesting s))
 
 pub by_names : {E : Type 0} (m : MeaningMap) (s : Syntax) (r : Result (Option Broken) E) → Means m (flat_map item_meanings s.items)
     → IfOk r (λ b. b ≡ told (all_breaks (meaning m) s)) → IfOk r (λ b. b ≡ first_broken s)
