@@ -22,6 +22,8 @@ use Rattle.mql_sizes.specs.Members.{Values, enumerations_of, all_members, value_
 use Rattle.mql_sizes.specs.Sizes.{sizes, breaks_in}
 use Rattle.mql_sizes.specs.Maps.{value_at, Holds}
 use Rattle.mql_sizes.proofs.Held.{same_values}
+use Rattle.mql_nesting.specs.Nesting.{breaks_nesting}
+use Rattle.mql_bodies.specs.Bodies.{breaks_used}
 use Rattle.mql_decls.specs.declared.forms.StructureForm.{StructureForm}
 use Rattle.mql_decls.specs.declared.forms.FunctionForm.{FunctionForm}
 use Rattle.mql_decls.specs.declared.forms.GlobalForm.{GlobalForm}
@@ -47,11 +49,19 @@ of_constants names s items es m r a b e h held k l t =
     ∙ sym (told_append (flat_map valueless es) (flat_map (sizes names (value_among (all_members es))) (walk.things_of s)))
     ∙ ap (λ xs. full xs es) p ∙ ap (full (enumerations_of names [] s.items)) p
 
-pub of_all : (names : Names) (s : Syntax) (r a b : Option Broken) → a ≡ told_of names (things_of names s) → b ≡ told (breaks_in names s) → r ≡ sooner a b
-    → r ≡ told (all_breaks names s)
-of_all names s r a b h k t =
-    t ∙ ap (λ x. sooner x b) h ∙ ap (sooner (told_of names (things_of names s))) k
-    ∙ sym (told_append (flat_map (breaks names) (things_of names s)) (breaks_in names s))
+of_three : (names : Names) (s : Syntax) (r a b d : Option Broken) → a ≡ told_of names (things_of names s) → b ≡ told (breaks_in names s)
+    → d ≡ told (breaks_used s) → r ≡ sooner a (sooner b d) → r ≡ told (flat_map (breaks names) (things_of names s) ++ (breaks_in names s ++ breaks_used s))
+of_three names s r a b d h k l t =
+    t ∙ ap (λ x. sooner x (sooner b d)) h
+    ∙ ap (sooner (told_of names (things_of names s))) (ap (λ x. sooner x d) k ∙ ap (sooner (told (breaks_in names s))) l ∙ sym (told_append (breaks_in names s) (breaks_used s)))
+    ∙ sym (told_append (flat_map (breaks names) (things_of names s)) (breaks_in names s ++ breaks_used s))
+
+pub of_all : (names : Names) (s : Syntax) (r q a b d e : Option Broken) → a ≡ told_of names (things_of names s) → b ≡ told (breaks_in names s)
+    → d ≡ told (breaks_used s) → e ≡ told (breaks_nesting s) → q ≡ sooner a (sooner b d) → r ≡ sooner q e → r ≡ told (all_breaks names s)
+of_all names s r q a b d e h k l m t u =
+    let three : List Broken = flat_map (breaks names) (things_of names s) ++ (breaks_in names s ++ breaks_used s) in
+    u ∙ ap (λ x. sooner x e) (of_three names s q a b d h k l t)
+    ∙ ap (sooner (told three)) m ∙ sym (told_append three (breaks_nesting s))
 
 pub by_names : {E : Type 0} (m : MeaningMap) (s : Syntax) (r : Result (Option Broken) E) → Means m (flat_map item_meanings s.items)
     → IfOk r (λ b. b ≡ told (all_breaks (meaning m) s)) → IfOk r (λ b. b ≡ first_broken s)

@@ -10,12 +10,15 @@ use Rattle.mql_names.specs.Things.{things_of}
 use Rattle.mql_names.specs.Rules.{breaks}
 use Rattle.mql_plain.specs.Plain.{first_off}
 use Rattle.mql_sizes.specs.Sizes.{breaks_in}
+use Rattle.mql_bodies.specs.Bodies.{breaks_used}
+use Rattle.mql_nesting.specs.Nesting.{breaks_nesting}
 use Rattle.mql_decls.specs.declared.fault.Refusal.{Refusal}
 use Rattle.mql_decls.specs.declared.fault.Refusal.TheVariants as refusal
 
--- all that breaks a rule, where names mean this: rules 1, 2, 12, 15 and 16, and rules 13 and 14
+-- all that breaks a rule, where names mean this: rules 1, 2, 12, 15 and 16, rules 13 and 14, rule 9, and rule 10
 abbrev pub all_breaks : Names → Syntax → List Broken
-all_breaks names s = flat_map (breaks names) (things_of names s) ++ breaks_in names s
+all_breaks names s =
+    (flat_map (breaks names) (things_of names s) ++ (breaks_in names s ++ breaks_used s)) ++ breaks_nesting s
 
 unfoldable pub first_broken : Syntax → Option Broken
 first_broken s = told (all_breaks (names_of s.items) s)

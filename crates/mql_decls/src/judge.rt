@@ -7,7 +7,9 @@ ghost use Rattle.mql_decls.specs.Rules as rules;
 
 use crate::fault::Refusal;
 use fx8::OutOfMemory;
+use mql_bodies::bodies_told;
 use mql_names::{Broken, Meanings, meanings_of, sooner, told_with};
+use mql_nesting::nesting_told;
 use mql_plain::first_off;
 use mql_sizes::{EnumMembers, Values, enumerations_of, enumerations_told, sizes_told};
 use mql_syntax::Syntax;
@@ -37,7 +39,9 @@ fn all_told(
 {
     let of = told_with(alloc, names, syntax)?;
     let constants = constants_told(alloc, names, syntax)?;
-    Ok(sooner(of, constants))
+    let bodies = bodies_told(alloc, syntax)?;
+    let nesting = nesting_told(alloc, syntax)?;
+    Ok(sooner(sooner(of, sooner(constants, bodies)), nesting))
 }
 
 /// The broken rule of a program's declarations that is told.

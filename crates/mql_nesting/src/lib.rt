@@ -1,0 +1,7 @@
+//! Structures that contain themselves.
+#![tactic(auto)]
+
+mod nesting;
+mod structure;
+
+pub use nesting::nesting_told;
