@@ -46,7 +46,8 @@ fn byte_of(word: &str) -> Option<u8> {
     let [high, low] = word.as_bytes() else {
         return None;
     };
-    Some(digit(*high)? * 16 + digit(*low)?)
+    let (high, low) = (digit(*high)?, digit(*low)?);
+    Some(high.wrapping_mul(16).wrapping_add(low))
 }
 
 impl Case {
