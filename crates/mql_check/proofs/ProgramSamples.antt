@@ -31,9 +31,9 @@ use Rattle.mql_mean.specs.declared.value.Value.TheViews as ConstantView
 use Rattle.mql_names.specs.declared.fault.Broken.{Broken}
 use Rattle.mql_names.specs.Types as Types
 use Rattle.mql_types.specs.Overloads as Overloads
-use Rattle.mql_check.specs.Rules as Rules
-use Rattle.mql_check.specs.Made as Made
-use Rattle.mql_check.specs.Statements as Statements
+use Rattle.mql_expressions.specs.Rules as Rules
+use Rattle.mql_expressions.specs.Made as Made
+use Rattle.mql_statements.specs.Statements as Statements
 use Rattle.mql_check.specs.Programs.{Given, program_of, told_broken}
 use Rattle.mql_check.proofs.Words.{at, name, number, truth, node, statement, constant_of}
 

@@ -29,17 +29,17 @@ use Rattle.mql_types.specs.declared.dimensions.Dimensions.TheVariants as dims
 use Rattle.mql_types.specs.declared.overloads.Parameter.{Parameter}
 use Rattle.mql_types.specs.declared.overloads.Signature.{Signature}
 use Rattle.mql_types.specs.Overloads as Overloads
-use Rattle.mql_check.specs.declared.context.Known.{Known}
-use Rattle.mql_check.specs.declared.context.Storage.TheVariants as storage
+use Rattle.mql_scope.specs.declared.context.Known.{Known}
+use Rattle.mql_scope.specs.declared.context.Storage.TheVariants as storage
 use Rattle.mql_typed.specs.declared.info.Info.{Info}
 use Rattle.mql_typed.specs.declared.info.Standing.{Standing}
 use Rattle.mql_typed.specs.declared.info.Standing.TheVariants as stand
-use Rattle.mql_check.specs.Contexts.{Text, Program, Context}
-use Rattle.mql_check.specs.Values.{Found, found}
-use Rattle.mql_check.specs.Statements.{Told, told}
-use Rattle.mql_check.specs.Rules as Rules
-use Rattle.mql_check.specs.Made as Made
-use Rattle.mql_check.specs.Statements as Statements
+use Rattle.mql_scope.specs.Contexts.{Text, Program, Context}
+use Rattle.mql_expressions.specs.Values.{Found, found}
+use Rattle.mql_statements.specs.Statements.{Told, told}
+use Rattle.mql_expressions.specs.Rules as Rules
+use Rattle.mql_expressions.specs.Made as Made
+use Rattle.mql_statements.specs.Statements as Statements
 use Rattle.mql_syntax.specs.declared.value.Value.TheBlock as ValueRow
 use Rattle.mql_syntax.specs.declared.statement.Statement.TheBlock as StatementRow
 use Rattle.mql_mean.specs.declared.value.Value.TheBlock as ConstantRow

@@ -58,23 +58,23 @@ use Rattle.mql_types.specs.declared.types.DataType.{DataType}
 use Rattle.mql_types.specs.declared.overloads.Parameter.{Parameter}
 use Rattle.mql_types.specs.declared.overloads.Signature.{Signature}
 use Rattle.mql_types.specs.Types.{is_array}
-use Rattle.mql_check.specs.declared.context.Known.{Known}
-use Rattle.mql_check.specs.declared.context.Storage.TheVariants as storage
-use Rattle.mql_check.specs.declared.context.Field.{Field}
-use Rattle.mql_check.specs.declared.context.Layout.{Layout}
-use Rattle.mql_check.specs.declared.context.Enumeration.{Enumeration}
+use Rattle.mql_scope.specs.declared.context.Known.{Known}
+use Rattle.mql_scope.specs.declared.context.Storage.TheVariants as storage
+use Rattle.mql_scope.specs.declared.context.Field.{Field}
+use Rattle.mql_scope.specs.declared.context.Layout.{Layout}
+use Rattle.mql_scope.specs.declared.context.Enumeration.{Enumeration}
 use Rattle.mql_typed.specs.declared.info.Info.{Info}
 use Rattle.mql_typed.specs.declared.info.Standing.{Standing}
 use Rattle.mql_typed.specs.declared.info.Standing.TheVariants as stand
-use Rattle.mql_check.specs.Contexts.{Text, Program, Context, behind, written}
+use Rattle.mql_scope.specs.Contexts.{Text, Program, Context, behind, written}
 use Rattle.mql_typed.specs.Typed.{single, value_base, var_type}
-use Rattle.mql_check.specs.Nodes.{passes}
-use Rattle.mql_check.specs.Names.{stands_at}
-use Rattle.mql_check.specs.Rules.{no_fit}
-use Rattle.mql_check.specs.Values.{found, broken_at, innermost}
-use Rattle.mql_check.specs.Initialisers.{Begun, started, start_constant}
-use Rattle.mql_check.specs.Closing.{closes}
-use Rattle.mql_check.specs.Statements.{Told, Static, declared_standing, variable_type, evaluated, told_all}
+use Rattle.mql_calls.specs.Nodes.{passes}
+use Rattle.mql_scope.specs.Names.{stands_at}
+use Rattle.mql_expressions.specs.Rules.{no_fit}
+use Rattle.mql_expressions.specs.Values.{found, broken_at, innermost}
+use Rattle.mql_statements.specs.Initialisers.{Begun, started, start_constant}
+use Rattle.mql_statements.specs.Closing.{closes}
+use Rattle.mql_statements.specs.Statements.{Told, Static, declared_standing, variable_type, evaluated, told_all}
 
 -- What typing takes from elsewhere: the constant that an expression is, if it is one, by what the names of the
 -- program mean and the members of its enumerations; a constant taken into a type; the line and the file of a node.

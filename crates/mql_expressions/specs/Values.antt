@@ -9,10 +9,10 @@ use Rattle.mql_syntax.specs.declared.value.Operation.TheVariants as operation
 use Rattle.mql_syntax.specs.declared.value.Value.{Value, Node', Row_of-Value, end_of-Value, more_of-Value}
 use Rattle.mql_names.specs.declared.fault.Broken.{Broken}
 use Rattle.mql_typed.specs.declared.info.Info.{Info}
-use Rattle.mql_check.specs.Contexts.{Text, Context, behind}
-use Rattle.mql_check.specs.Nodes.{Node}
-use Rattle.mql_check.specs.Rules.{lowest}
-use Rattle.mql_check.specs.Made.{tells}
+use Rattle.mql_scope.specs.Contexts.{Text, Context, behind}
+use Rattle.mql_calls.specs.Nodes.{Node}
+use Rattle.mql_expressions.specs.Rules.{lowest}
+use Rattle.mql_expressions.specs.Made.{tells}
 
 -- rules broken below a node, and those broken at it
 abbrev pub below : ℕ → List Broken → List Broken

@@ -31,12 +31,12 @@ use Rattle.mql_names.specs.declared.types.Sort.TheVariants as written
 use Rattle.mql_types.specs.declared.types.Base.{Base}
 use Rattle.mql_types.specs.declared.types.Base.TheVariants as base
 use Rattle.mql_types.specs.declared.overloads.Signature.{Signature}
-use Rattle.mql_check.specs.declared.context.Known.{Known}
-use Rattle.mql_check.specs.declared.context.Storage.{Storage}
-use Rattle.mql_check.specs.declared.context.Storage.TheVariants as storage
-use Rattle.mql_check.specs.declared.context.Enumeration.{Enumeration}
+use Rattle.mql_scope.specs.declared.context.Known.{Known}
+use Rattle.mql_scope.specs.declared.context.Storage.{Storage}
+use Rattle.mql_scope.specs.declared.context.Storage.TheVariants as storage
+use Rattle.mql_scope.specs.declared.context.Enumeration.{Enumeration}
 use Rattle.mql_typed.specs.declared.info.Info.{Info}
-use Rattle.mql_check.specs.Contexts.{Text, Program, Context, either, variable_named, sort_type}
+use Rattle.mql_scope.specs.Contexts.{Text, Program, Context, either, variable_named, sort_type}
 use Rattle.mql_typed.specs.Typed.{on_one, int, a_value, a_place}
 
 -- the place of a variable

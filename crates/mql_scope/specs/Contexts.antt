@@ -12,10 +12,10 @@ use Rattle.mql_names.specs.Types.{Names, type_sort, type_name}
 use Rattle.mql_types.specs.declared.types.Base.{Base}
 use Rattle.mql_types.specs.declared.types.Base.TheVariants as base
 use Rattle.mql_types.specs.declared.overloads.Signature.{Signature}
-use Rattle.mql_check.specs.declared.context.Known.{Known}
-use Rattle.mql_check.specs.declared.context.Field.{Field}
-use Rattle.mql_check.specs.declared.context.Layout.{Layout}
-use Rattle.mql_check.specs.declared.context.Enumeration.{Enumeration}
+use Rattle.mql_scope.specs.declared.context.Known.{Known}
+use Rattle.mql_scope.specs.declared.context.Field.{Field}
+use Rattle.mql_scope.specs.declared.context.Layout.{Layout}
+use Rattle.mql_scope.specs.declared.context.Enumeration.{Enumeration}
 
 abbrev pub Text : Type 0
 Text = List ℕ

@@ -21,14 +21,14 @@ use Rattle.mql_types.specs.declared.dimensions.Dimensions.{Dimensions}
 use Rattle.mql_types.specs.declared.dimensions.Dimensions.TheVariants as dims
 use Rattle.mql_types.specs.Types.{is_array}
 use Rattle.mql_types.specs.Conversions.{fits}
-use Rattle.mql_check.specs.declared.context.Field.{Field}
+use Rattle.mql_scope.specs.declared.context.Field.{Field}
 use Rattle.mql_typed.specs.declared.info.Info.{Info}
-use Rattle.mql_check.specs.Contexts.{Program, Context, behind}
+use Rattle.mql_scope.specs.Contexts.{Program, Context, behind}
 use Rattle.mql_typed.specs.Operations.{element_type}
 use Rattle.mql_typed.specs.Typed.{on_one, on_two, int, value_base, converted}
-use Rattle.mql_check.specs.Nodes.{passes, is_void, is_whole_array}
-use Rattle.mql_check.specs.Rules.{no_fit, fields_at}
-use Rattle.mql_check.specs.Values.{Found, found, innermost, broken_at, kept_by}
+use Rattle.mql_calls.specs.Nodes.{passes, is_void, is_whole_array}
+use Rattle.mql_expressions.specs.Rules.{no_fit, fields_at}
+use Rattle.mql_expressions.specs.Values.{Found, found, innermost, broken_at, kept_by}
 
 -- what a variable begins with: what is done, one expression after another, the locals that this takes, and the
 -- rules that may be told

@@ -32,19 +32,19 @@ use Rattle.mql_types.specs.declared.dimensions.Dimensions.TheVariants as dims
 use Rattle.mql_types.specs.Types.{sort_base}
 use Rattle.mql_types.specs.Conversions.{is_number, is_null}
 use Rattle.mql_types.specs.Operators.{unary_sort}
-use Rattle.mql_check.specs.declared.context.Known.{Known}
-use Rattle.mql_check.specs.declared.context.Storage.{Storage}
-use Rattle.mql_check.specs.declared.context.Storage.TheVariants as storage
+use Rattle.mql_scope.specs.declared.context.Known.{Known}
+use Rattle.mql_scope.specs.declared.context.Storage.{Storage}
+use Rattle.mql_scope.specs.declared.context.Storage.TheVariants as storage
 use Rattle.mql_typed.specs.declared.info.Info.{Info}
 use Rattle.mql_typed.specs.declared.info.Standing.{Standing}
 use Rattle.mql_typed.specs.declared.info.Standing.TheVariants as stand
-use Rattle.mql_check.specs.Contexts.{Text, Program, Context, behind, written}
+use Rattle.mql_scope.specs.Contexts.{Text, Program, Context, behind, written}
 use Rattle.mql_typed.specs.Typed.{value_base, value_of, into_sort, converted, condition, var_type}
-use Rattle.mql_check.specs.Names.{stands_at}
-use Rattle.mql_check.specs.Nodes.{passes, nth, is_void, is_whole_array, some_part}
-use Rattle.mql_check.specs.Rules.{no_fit, no_integer, no_condition}
-use Rattle.mql_check.specs.Values.{Found, innermost, broken_at, found_all, infos_in, broken_in, kept_by}
-use Rattle.mql_check.specs.Initialisers.{Begun, nothing_begun, started, start_constant}
+use Rattle.mql_scope.specs.Names.{stands_at}
+use Rattle.mql_calls.specs.Nodes.{passes, nth, is_void, is_whole_array, some_part}
+use Rattle.mql_expressions.specs.Rules.{no_fit, no_integer, no_condition}
+use Rattle.mql_expressions.specs.Values.{Found, innermost, broken_at, found_all, infos_in, broken_in, kept_by}
+use Rattle.mql_statements.specs.Initialisers.{Begun, nothing_begun, started, start_constant}
 
 -- a label of a `switch`: its number, none for `default`, where it is known; and how many statements stand before it
 pub data LabelValue : Type 0 where

@@ -9,16 +9,16 @@ use Rattle.mql_syntax.specs.declared.value.Operation.TheVariants as operation
 use Rattle.mql_types.specs.declared.types.Base.{Base}
 use Rattle.mql_types.specs.declared.types.Base.TheVariants as base
 use Rattle.mql_types.specs.Operators.{bool}
-use Rattle.mql_check.specs.declared.context.Field.{Field}
+use Rattle.mql_scope.specs.declared.context.Field.{Field}
 use Rattle.mql_typed.specs.declared.info.Info.{Info}
 use Rattle.mql_typed.specs.Typed.{is_place}
 use Rattle.mql_typed.specs.Operations.{on, literal, truth, unary_info, postfix_info, binary_info, conditional_info, assign_info, update_info, index_info, kept_field, placed_field, cast_info}
-use Rattle.mql_check.specs.Contexts.{Text, Context}
-use Rattle.mql_check.specs.Names.{Callee, Functions, Conversion, Supplied, Other, Unknown, name_info, callee}
-use Rattle.mql_check.specs.Nodes.{Node, nth, told, arguments}
-use Rattle.mql_check.specs.Calls.{chosen, call_info}
-use Rattle.mql_check.specs.NativeCalls.{native_info}
-use Rattle.mql_check.specs.Rules.{cast_base, field_at, lowest}
+use Rattle.mql_scope.specs.Contexts.{Text, Context}
+use Rattle.mql_scope.specs.Names.{Callee, Functions, Conversion, Supplied, Other, Unknown, name_info, callee}
+use Rattle.mql_calls.specs.Nodes.{Node, nth, told, arguments}
+use Rattle.mql_calls.specs.Calls.{chosen, call_info}
+use Rattle.mql_calls.specs.NativeCalls.{native_info}
+use Rattle.mql_expressions.specs.Rules.{cast_base, field_at, lowest}
 
 abbrev pub field_info : Context → Info → ℕ × Field → Option Info
 field_info c i f =

@@ -1,0 +1,7 @@
+//! What is known where a part of a program stands: the variables in force, the program's types and functions, and
+//! what a name means there.
+#![tactic(auto)]
+
+mod context;
+
+pub use context::{Enumeration, Field, Known, Layout, Storage};
