@@ -1,3 +1,4 @@
 pub mod Rules
+pub mod Views
 pub mod Made
 pub mod Values

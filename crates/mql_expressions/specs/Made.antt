@@ -4,6 +4,7 @@ use Rattle.std.specs.Prelude.{ℕ, ◌+◌, pos, List, [], ◌∷◌, length, Op
 use Rattle.fx8.specs.declared.int_kind.IntKind.TheVariants as kind
 use Rattle.natives.specs.declared.types.SimpleType.TheVariants as simple
 use Rattle.mql_mean.specs.declared.value.Value.TheVariants as value
+use Rattle.mql_syntax.specs.declared.value.TypeUse.{TypeUse}
 use Rattle.mql_syntax.specs.declared.value.Operation.{Operation}
 use Rattle.mql_syntax.specs.declared.value.Operation.TheVariants as operation
 use Rattle.mql_types.specs.declared.types.Base.{Base}
@@ -14,16 +15,20 @@ use Rattle.mql_typed.specs.declared.info.Info.{Info}
 use Rattle.mql_typed.specs.Typed.{is_place}
 use Rattle.mql_typed.specs.Operations.{on, literal, truth, unary_info, postfix_info, binary_info, conditional_info, assign_info, update_info, index_info, kept_field, placed_field, cast_info}
 use Rattle.mql_scope.specs.Contexts.{Text, Context}
-use Rattle.mql_scope.specs.Names.{Callee, Functions, Conversion, Supplied, Other, Unknown, name_info, callee}
+use Rattle.mql_scope.specs.declared.names.Callee.{Callee}
+use Rattle.mql_scope.specs.declared.names.Callee.TheVariants.{Functions, Conversion, Supplied, Other, Unknown}
+use Rattle.mql_scope.specs.Names.{name_info, callee}
 use Rattle.mql_calls.specs.Nodes.{Node, nth, told, arguments}
 use Rattle.mql_calls.specs.Calls.{chosen, call_info}
 use Rattle.mql_calls.specs.NativeCalls.{native_info}
 use Rattle.mql_expressions.specs.Rules.{cast_base, field_at, lowest}
 
+-- a field of a place; that of a structure that is none, which is kept in the next local first
+abbrev pub kept_part : Context → Info → ℕ × Field → Option Info
+kept_part c i f = option_map (λ whole. kept_field (c.next + length i.kept) f.0 whole f.1.of i) i.of
+
 abbrev pub field_info : Context → Info → ℕ × Field → Option Info
-field_info c i f =
-    if is_place i.standing then Some (placed_field f.0 f.1.of i)
-    else option_map (λ whole. kept_field (c.next + length i.kept) f.0 whole f.1.of i) i.of
+field_info c i f = if is_place i.standing then Some (placed_field f.0 f.1.of i) else kept_part c i f
 
 abbrev pub member_info : Context → Text → Info → Option Info
 member_info c x i = on (field_at c.program i x) (field_info c i)
@@ -45,18 +50,33 @@ called_info c x is Other = None
 called_info c x is Unknown = None
 
 abbrev pub call_of : Context → Node → Option Info
-call_of c n =
-    on n.called (λ x. on (told n.parts) (λ is. called_info c x is (callee c n.place x)))
+call_of c n = on n.called (λ x. on (told n.parts) (λ is. called_info c x is (callee c n.place x)))
 
--- one part, two, three
-abbrev pub one : (Info → Option Info) → Node → Option Info
-one f n = on (nth 0 n.parts) f
+-- forms of one part, of two and of three
+abbrev pub of_one : Operation → Context → List TypeUse → Info → Option Info
+of_one operation.Parentheses c types i = Some i
+of_one (operation.Unary o) c types i = unary_info o i
+of_one (operation.Postfix s) c types i = postfix_info s i
+of_one (operation.Member x) c types i = member_info c x i
+of_one operation.Conversion c types i = cast_info (cast_base c types) i
+of_one operation.Cast c types i = cast_info (cast_base c types) i
+of_one _ c types i = None
 
-abbrev pub two : (Info → Info → Option Info) → Node → Option Info
-two f n = on (nth 0 n.parts) (λ i. on (nth 1 n.parts) (f i))
+abbrev pub of_two : Operation → Info → Info → Option Info
+of_two (operation.Binary o) i j = binary_info o i j
+of_two operation.Assign i j = assign_info i j
+of_two (operation.AssignWith o) i j = update_info o i j
+of_two operation.Index i j = index_info i j
+of_two _ i j = None
 
-abbrev pub three : (Info → Info → Info → Option Info) → Node → Option Info
-three f n = on (nth 0 n.parts) (λ i. on (nth 1 n.parts) (λ j. on (nth 2 n.parts) (f i j)))
+abbrev pub one : Operation → Context → Node → Option Info
+one what c n = on (nth 0 n.parts) (of_one what c n.types)
+
+abbrev pub two : Operation → Node → Option Info
+two what n = on (nth 0 n.parts) (λ i. on (nth 1 n.parts) (of_two what i))
+
+abbrev pub three : Node → Option Info
+three n = on (nth 0 n.parts) (λ i. on (nth 1 n.parts) (λ j. on (nth 2 n.parts) (conditional_info i j)))
 
 -- what a node tells that breaks no rule
 abbrev pub made_at : Operation → Context → Node → Option Info
@@ -66,18 +86,18 @@ made_at (operation.Double x) c n = literal (base.Simple simple.Double) (value.Db
 made_at (operation.Text t) c n = literal (base.Simple simple.String) (value.Str t)
 made_at (operation.Bool b) c n = literal bool (value.Num kind.Bool (truth b))
 made_at operation.Null c n = literal base.Null (value.Ptr 0)
-made_at operation.Parentheses c n = one (λ i. Some i) n
-made_at (operation.Unary o) c n = one (unary_info o) n
-made_at (operation.Postfix s) c n = one (postfix_info s) n
-made_at (operation.Binary o) c n = two (binary_info o) n
-made_at operation.Conditional c n = three conditional_info n
-made_at operation.Assign c n = two assign_info n
-made_at (operation.AssignWith o) c n = two (update_info o) n
-made_at operation.Index c n = two index_info n
-made_at (operation.Member x) c n = one (member_info c x) n
 made_at operation.Call c n = call_of c n
-made_at operation.Conversion c n = one (cast_info (cast_base c n.types)) n
-made_at operation.Cast c n = one (cast_info (cast_base c n.types)) n
+made_at operation.Conditional c n = three n
+made_at (operation.Binary o) c n = two (operation.Binary o) n
+made_at operation.Assign c n = two operation.Assign n
+made_at (operation.AssignWith o) c n = two (operation.AssignWith o) n
+made_at operation.Index c n = two operation.Index n
+made_at operation.Parentheses c n = one operation.Parentheses c n
+made_at (operation.Unary o) c n = one (operation.Unary o) c n
+made_at (operation.Postfix s) c n = one (operation.Postfix s) c n
+made_at (operation.Member x) c n = one (operation.Member x) c n
+made_at operation.Conversion c n = one operation.Conversion c n
+made_at operation.Cast c n = one operation.Cast c n
 made_at _ c n = None
 
 -- what a node tells

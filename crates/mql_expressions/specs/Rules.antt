@@ -1,6 +1,6 @@
 -- The rules of expressions, one named test each, in the order of their numbers (MQL5 Reference, Language Basics,
 -- Operations and Expressions; Functions). A rule that asks about a part that tells nothing is not broken.
-use Rattle.std.specs.Prelude.{ℕ, ◌+◌, Bool, true, false, not, ◌&&◌, ◌||◌, ◌==◌, List, [], ◌∷◌, length, Option, Some, None, is_none, is_some, bytes_eq, slice_get, if◌then◌else◌}
+use Rattle.std.specs.Prelude.{ℕ, ◌+◌, Bool, true, false, not, ◌&&◌, ◌||◌, List, [], ◌∷◌, ◌++◌, Option, Some, None, is_none, is_some, option_map, bytes_eq, slice_get, if◌then◌else◌}
 use Rattle.fx8.specs.declared.int_operator.IntOperator.{IntOperator}
 use Rattle.fx8.specs.declared.int_operator.IntOperator.TheVariants as op
 use Rattle.natives.specs.declared.native.Native.{Native}
@@ -28,12 +28,27 @@ use Rattle.mql_scope.specs.declared.context.Field.{Field}
 use Rattle.mql_scope.specs.declared.context.Layout.{Layout}
 use Rattle.mql_typed.specs.declared.info.Info.{Info}
 use Rattle.mql_scope.specs.Contexts.{Text, Program, Context, written}
-use Rattle.mql_scope.specs.Names.{Callee, Functions, Conversion, Supplied, Other, Unknown, name_info, callee}
+use Rattle.mql_scope.specs.declared.names.Callee.{Callee}
+use Rattle.mql_scope.specs.declared.names.Callee.TheVariants.{Functions, Conversion, Supplied, Other, Unknown}
+use Rattle.mql_scope.specs.Names.{name_info, callee}
 use Rattle.mql_typed.specs.Typed.{value_base}
-use Rattle.mql_typed.specs.Operations.{int_operator}
-use Rattle.mql_calls.specs.Nodes.{Node, Rule, passes, nth, ask, ask_base, ask_bases, some_part, is_void, is_whole_array, no_place, is_constant, is_of_input, told, arguments_of}
-use Rattle.mql_calls.specs.Calls.{chosen, is_nothing, is_equal, some_pair, not_placed, differs, lends_constant, whole_array}
+use Rattle.mql_typed.specs.Operations.{on, int_operator}
+use Rattle.mql_calls.specs.Nodes.{Node, Rule, passes, nth, ask, some_part, is_void, is_whole_array, no_place, is_constant, is_of_input, told, arguments_of}
+use Rattle.mql_calls.specs.declared.calls.ArgumentRule.{ArgumentRule}
+use Rattle.mql_calls.specs.declared.calls.ArgumentRule.TheVariants as argument
+use Rattle.mql_calls.specs.Calls.{chosen_in, is_nothing, is_equal, some_pair, breaks}
 use Rattle.mql_calls.specs.NativeCalls.{wrong_arguments, lends_native, flags_no_line}
+use Rattle.mql_expressions.specs.declared.handed.Handed.{Handed}
+
+-- the type of a part's value; tests of those of one part and of the first two
+abbrev pub base_at : ℕ → Node → Option Base
+base_at k n = on (nth k n.parts) value_base
+
+abbrev pub ask_base : ℕ → (Base → Bool) → Node → Bool
+ask_base k test n = passes test (base_at k n)
+
+abbrev pub ask_bases : (Base → Base → Bool) → Node → Bool
+ask_bases test n = passes (λ a. ask_base 1 (test a) n) (base_at 0 n)
 
 -- the operator between two values at a node, that of an assignment included
 abbrev pub operator_of : Operation → Option IntOperator
@@ -60,9 +75,9 @@ on_number (operation.Unary unary.Decrement) = true
 on_number (operation.Postfix s) = true
 on_number _ = false
 
--- what a call calls
-abbrev pub calls : (Callee → Bool) → Rule
-calls test c n = passes (λ x. test (callee c n.place x)) n.called
+-- what a node calls
+abbrev pub callee_of : Context → Node → Option Callee
+callee_of c n = option_map (callee c n.place) n.called
 
 abbrev pub is_unknown : Callee → Bool
 is_unknown Unknown = true
@@ -72,48 +87,57 @@ abbrev pub is_other : Callee → Bool
 is_other Other = true
 is_other _ = false
 
--- a call of the program's functions, of a native function, and of a type, with its arguments
-abbrev pub on_functions : Callee → Bool
-on_functions Functions = true
-on_functions _ = false
+abbrev pub is_functions : Callee → Bool
+is_functions Functions = true
+is_functions _ = false
 
-abbrev pub ask_arguments : (Text → List Argument → Bool) → Rule
-ask_arguments test c n =
-    calls on_functions c n && passes (λ x. passes (test x) (arguments_of n)) n.called
+-- a call of the program's functions whose arguments all tell something: the arguments, and what is chosen
+abbrev pub handed : Text → List Signature → List Argument → Handed
+handed x fs given = record { arguments = given; choice = choose x given fs }
 
-abbrev pub ask_pairs : (Argument → Parameter → Bool) → Rule
-ask_pairs test c n =
-    ask_arguments (λ x given.
-    passes (λ (f : Signature). some_pair test given f.parameters) (chosen c.program x given)) c n
+abbrev pub handed_to : List Signature → Option Text → Option (List Argument) → Option Handed
+handed_to fs (Some x) (Some given) = Some (handed x fs given)
+handed_to fs _ _ = None
 
-abbrev pub ask_supplied : (Native → List Info → Bool) → Callee → Option (List Info) → Bool
-ask_supplied test (Supplied f) (Some is) = test f is
-ask_supplied test _ _ = false
+abbrev pub handed_at : Context → Node → Option Handed
+handed_at c n =
+    if passes is_functions (callee_of c n) then handed_to c.program.functions n.called (arguments_of n) else None
+
+-- the chosen function has a parameter at which an argument breaks a rule
+abbrev pub chosen_for : List Signature → Handed → Option Signature
+chosen_for fs h = chosen_in fs h.choice
+
+abbrev pub breaks_at : ArgumentRule → List Signature → Handed → Bool
+breaks_at rule fs h =
+    passes (λ (f : Signature). some_pair (breaks rule) h.arguments f.parameters) (chosen_for fs h)
+
+abbrev pub ask_pairs : ArgumentRule → Rule
+ask_pairs rule c n = passes (breaks_at rule c.program.functions) (handed_at c n)
+
+-- a call of a native function, with its arguments
+abbrev pub ask_supplied : (Native → List Info → Bool) → Option (List Info) → Callee → Bool
+ask_supplied test is (Supplied f) = passes (test f) is
+ask_supplied test is _ = false
 
 abbrev pub ask_native : (Native → List Info → Bool) → Rule
-ask_native test c n = passes (λ x. ask_supplied test (callee c n.place x) (told n.parts)) n.called
+ask_native test c n = passes (ask_supplied test (told n.parts)) (callee_of c n)
 
+-- a call of a type
 abbrev pub converts_to : Callee → Option Base
 converts_to (Conversion b) = Some b
 converts_to _ = None
 
-abbrev pub is_one : {A : Type 0} → List A → Bool
-is_one xs = length xs == 1
-
 abbrev pub called_base : Context → Node → Option Base
-called_base c n = elim (n.called) [ None ↦ None | Some x ↦ converts_to (callee c n.place x) ]
+called_base c n = on (callee_of c n) converts_to
+
+abbrev pub is_one : {A : Type 0} → List A → Bool
+is_one (x ∷ []) = true
+is_one _ = false
 
 -- the type that a cast names
 abbrev pub cast_base : Context → List TypeUse → Option Base
 cast_base c [] = None
 cast_base c (t ∷ ts) = written c.program t
-
--- the type that a node asks of its value: what is cast to, what is called, what is assigned to
-abbrev pub asked_base : Context → Node → Operation → Option Base
-asked_base c n operation.Conversion = cast_base c n.types
-asked_base c n operation.Cast = cast_base c n.types
-asked_base c n operation.Call = called_base c n
-asked_base c n _ = None
 
 -- the field of a name that values of a type have
 abbrev pub field_in : List Field → Text → ℕ → Option (ℕ × Field)
@@ -129,7 +153,7 @@ field_of p (base.Structure n) x = field_in (fields_at (slice_get p.structures n)
 field_of p _ x = None
 
 abbrev pub field_at : Program → Info → Text → Option (ℕ × Field)
-field_at p i x = elim (value_base i) [ None ↦ None | Some b ↦ field_of p b x ]
+field_at p i x = on (value_base i) (λ b. field_of p b x)
 
 abbrev pub is_type : Sort → Bool
 is_type sort.Unknown = false
@@ -141,7 +165,7 @@ names_type c x = is_type (named_sort c.program.names x)
 -- 1 an unknown name; there are no templates and no names of classes yet
 abbrev pub unknown_at : Operation → Rule
 unknown_at (operation.Name x) c n = is_none (name_info c n.place x)
-unknown_at operation.Call c n = calls is_unknown c n
+unknown_at operation.Call c n = passes is_unknown (callee_of c n)
 unknown_at (operation.Generic x) c n = true
 unknown_at (operation.Scope class x) c n = not (names_type c class)
 unknown_at _ c n = false
@@ -150,8 +174,11 @@ abbrev pub unknown_name : Rule
 unknown_name c n = unknown_at n.what c n
 
 -- 2 an unknown member; structures have no static ones yet
+abbrev pub lacks : Program → Text → Info → Bool
+lacks p x i = is_some i.of && is_none (field_at p i x)
+
 abbrev pub unknown_member_at : Operation → Rule
-unknown_member_at (operation.Member x) c n = ask 0 (λ i. is_some i.of && is_none (field_at c.program i x)) n
+unknown_member_at (operation.Member x) c n = ask 0 (lacks c.program x) n
 unknown_member_at (operation.Scope class x) c n = names_type c class
 unknown_member_at _ c n = false
 
@@ -162,8 +189,11 @@ unknown_member c n = unknown_member_at n.what c n
 abbrev pub is_closed : ℕ × Field → Bool
 is_closed f = not f.1.accessible
 
+abbrev pub hides : Program → Text → Info → Bool
+hides p x i = passes is_closed (field_at p i x)
+
 abbrev pub not_accessible_at : Operation → Rule
-not_accessible_at (operation.Member x) c n = ask 0 (λ i. passes is_closed (field_at c.program i x)) n
+not_accessible_at (operation.Member x) c n = ask 0 (hides c.program x) n
 not_accessible_at _ c n = false
 
 abbrev pub not_accessible : Rule
@@ -175,17 +205,21 @@ is_call operation.Call = true
 is_call _ = false
 
 abbrev pub not_callable : Rule
-not_callable c n = is_call n.what && (is_none n.called || calls is_other c n)
+not_callable c n = is_call n.what && (is_none n.called || passes is_other (callee_of c n))
 
 -- 5 no overload takes the arguments; a type that is called takes one
+abbrev pub none_takes : Handed → Bool
+none_takes h = is_nothing h.choice
+
 abbrev pub no_overload : Rule
-no_overload c n =
-    ask_arguments (λ x given. is_nothing (choose x given c.program.functions)) c n
-    || (is_some (called_base c n) && not (is_one n.parts))
+no_overload c n = passes none_takes (handed_at c n) || (is_some (called_base c n) && not (is_one n.parts))
 
 -- 6 two overloads fit equally
+abbrev pub takes_equally : Handed → Bool
+takes_equally h = is_equal h.choice
+
 abbrev pub fit_equally : Rule
-fit_equally c n = ask_arguments (λ x given. is_equal (choose x given c.program.functions)) c n
+fit_equally c n = passes takes_equally (handed_at c n)
 
 -- 7 wrong arguments of a native function
 abbrev pub wrong_native : Rule
@@ -193,16 +227,17 @@ wrong_native c n = ask_native wrong_arguments c n
 
 -- 8 a reference argument is no place
 abbrev pub reference_no_place : Rule
-reference_no_place c n = ask_pairs not_placed c n
+reference_no_place c n = ask_pairs argument.NotPlaced c n
 
 -- 9 its type differs
 abbrev pub reference_differs : Rule
-reference_differs c n = ask_pairs differs c n
+reference_differs c n = ask_pairs argument.Differs c n
 
 -- 10 a constant is changed or lent for change
 abbrev pub constant_changed : Rule
 constant_changed c n =
-    (changes n.what && ask 0 is_constant n) || (ask_pairs lends_constant c n || ask_native lends_native c n)
+    (changes n.what && ask 0 is_constant n)
+    || (ask_pairs argument.LendsConstant c n || ask_native lends_native c n)
 
 -- 11 an input is assigned
 abbrev pub input_changed : Rule
@@ -220,23 +255,30 @@ abbrev pub no_update : Option IntOperator → Base → Base → Bool
 no_update None a b = false
 no_update (Some o) a b = passes (λ s. not (fits (result_base o s) a)) (binary_sort o a b)
 
+abbrev pub fits_not_in : Node → Option Base → Bool
+fits_not_in n to = passes (λ b. ask_base 0 (no_fit b) n) to
+
+abbrev pub no_cast : Option Base → Node → Bool
+no_cast to n = is_none to || fits_not_in n to
+
 abbrev pub no_conversion_at : Operation → Rule
 no_conversion_at operation.Assign c n = ask_bases no_fit n
 no_conversion_at (operation.AssignWith o) c n = ask_bases (no_update (int_operator o)) n
-no_conversion_at operation.Conversion c n = is_none (cast_base c n.types)
-    || passes (λ b. ask_base 0 (no_fit b) n) (cast_base c n.types)
-no_conversion_at operation.Cast c n = is_none (cast_base c n.types)
-    || passes (λ b. ask_base 0 (no_fit b) n) (cast_base c n.types)
-no_conversion_at operation.Call c n = passes (λ b. ask_base 0 (no_fit b) n) (called_base c n)
+no_conversion_at operation.Conversion c n = no_cast (cast_base c n.types) n
+no_conversion_at operation.Cast c n = no_cast (cast_base c n.types) n
+no_conversion_at operation.Call c n = fits_not_in n (called_base c n)
 no_conversion_at _ c n = false
 
 abbrev pub no_conversion : Rule
 no_conversion c n = no_conversion_at n.what c n
 
 -- 14 an operand is no number
+abbrev pub is_no_number : Base → Bool
+is_no_number a = not (is_number a)
+
 abbrev pub no_number : Rule
 no_number c n =
-    (on_number n.what && ask_base 0 (λ a. not (is_number a)) n)
+    (on_number n.what && ask_base 0 is_no_number n)
     || passes (λ o. ask_bases (no_numbers o) n) (operator_of n.what)
 
 -- 15 `%`, a shift or an operator on bits, on a `double`
@@ -260,13 +302,13 @@ structures_compared c n =
 
 -- 17 a condition is no number
 abbrev pub no_condition : Info → Bool
-no_condition i = passes (λ a. not (is_number a)) (value_base i)
+no_condition i = passes is_no_number (value_base i)
 
 abbrev pub no_condition_at : Operation → Rule
-no_condition_at operation.Conditional c n = ask 0 no_condition n
+no_condition_at operation.Conditional c n = ask_base 0 is_no_number n
 no_condition_at (operation.Binary binary.And) c n = some_part no_condition n.parts
 no_condition_at (operation.Binary binary.Or) c n = some_part no_condition n.parts
-no_condition_at (operation.Unary unary.Not) c n = ask 0 no_condition n
+no_condition_at (operation.Unary unary.Not) c n = ask_base 0 is_no_number n
 no_condition_at _ c n = false
 
 abbrev pub condition_no_number : Rule
@@ -282,11 +324,11 @@ is_index operation.Index = true
 is_index _ = false
 
 abbrev pub index_no_array : Rule
-index_no_array c n = is_index n.what && ask 0 (λ i. is_some (value_base i)) n
+index_no_array c n = is_index n.what && is_some (base_at 0 n)
 
 -- 25 an index is no integer
 abbrev pub no_integer : Base → Bool
-no_integer a = not (is_number a) || is_double a
+no_integer a = is_no_number a || is_double a
 
 abbrev pub index_no_integer : Rule
 index_no_integer c n = is_index n.what && ask_base 1 no_integer n
@@ -304,7 +346,7 @@ abbrev pub array_used : Rule
 array_used c n =
     (not (takes_arrays n.what) && some_part is_whole_array n.parts)
     || ((is_index n.what && ask 1 is_whole_array n)
-    || ((is_some (called_base c n) && some_part is_whole_array n.parts) || ask_pairs whole_array c n))
+    || ((is_some (called_base c n) && some_part is_whole_array n.parts) || ask_pairs argument.WholeArray c n))
 
 -- 27 `new` of no class: there are none yet
 abbrev pub is_new : Operation → Bool
@@ -354,7 +396,7 @@ no_common a b = is_none (branches a b)
 
 abbrev pub branches_differ : Rule
 branches_differ c n =
-    is_conditional n.what && ask_base 1 (λ a. ask_base 2 (no_common a) n) n
+    is_conditional n.what && passes (λ a. ask_base 2 (no_common a) n) (base_at 1 n)
 
 -- a rule with its number
 pub record Numbered : Type 0 where
@@ -364,16 +406,32 @@ pub record Numbered : Type 0 where
 abbrev pub rule : ℕ → Rule → Numbered
 rule k r = record { number = k; test = r }
 
--- all rules that expressions break
+-- all rules that expressions break: of names and members, of calls, of places and operands, of values, and
+-- of what is not built
+abbrev pub name_rules : List Numbered
+name_rules = rule 1 unknown_name ∷ rule 2 unknown_member ∷ rule 3 not_accessible ∷ []
+
+abbrev pub call_rules : List Numbered
+call_rules =
+    rule 4 not_callable ∷ rule 5 no_overload ∷ rule 6 fit_equally ∷ rule 7 wrong_native ∷
+    rule 8 reference_no_place ∷ rule 9 reference_differs ∷ rule 10 constant_changed ∷ []
+
+abbrev pub operand_rules : List Numbered
+operand_rules =
+    rule 11 input_changed ∷ rule 12 left_no_place ∷ rule 13 no_conversion ∷ rule 14 no_number ∷
+    rule 15 double_bits ∷ rule 16 structures_compared ∷ rule 17 condition_no_number ∷ []
+
+abbrev pub value_rules : List Numbered
+value_rules =
+    rule 23 void_used ∷ rule 24 index_no_array ∷ rule 25 index_no_integer ∷ rule 26 array_used ∷ []
+
+abbrev pub other_rules : List Numbered
+other_rules =
+    rule 27 new_of_no_class ∷ rule 29 unrelated_pointers ∷ rule 30 this_outside ∷ rule 35 braces_alone ∷
+    rule 38 series_flag ∷ rule 39 branches_differ ∷ []
+
 abbrev pub rules : List Numbered
-rules =
-    rule 1 unknown_name ∷ rule 2 unknown_member ∷ rule 3 not_accessible ∷ rule 4 not_callable ∷
-    rule 5 no_overload ∷ rule 6 fit_equally ∷ rule 7 wrong_native ∷ rule 8 reference_no_place ∷
-    rule 9 reference_differs ∷ rule 10 constant_changed ∷ rule 11 input_changed ∷ rule 12 left_no_place ∷
-    rule 13 no_conversion ∷ rule 14 no_number ∷ rule 15 double_bits ∷ rule 16 structures_compared ∷
-    rule 17 condition_no_number ∷ rule 23 void_used ∷ rule 24 index_no_array ∷ rule 25 index_no_integer ∷
-    rule 26 array_used ∷ rule 27 new_of_no_class ∷ rule 29 unrelated_pointers ∷ rule 30 this_outside ∷
-    rule 35 braces_alone ∷ rule 38 series_flag ∷ rule 39 branches_differ ∷ []
+rules = name_rules ++ (call_rules ++ (operand_rules ++ (value_rules ++ other_rules)))
 
 -- the lowest rule that a node breaks
 abbrev pub lowest_in : List Numbered → Context → Node → Option ℕ

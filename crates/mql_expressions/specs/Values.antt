@@ -11,6 +11,8 @@ use Rattle.mql_names.specs.declared.fault.Broken.{Broken}
 use Rattle.mql_typed.specs.declared.info.Info.{Info}
 use Rattle.mql_scope.specs.Contexts.{Text, Context, behind}
 use Rattle.mql_calls.specs.Nodes.{Node}
+use Rattle.mql_expressions.specs.declared.found.Found.{Found}
+use Rattle.mql_expressions.specs.declared.found.Founds.{Founds}
 use Rattle.mql_expressions.specs.Rules.{lowest}
 use Rattle.mql_expressions.specs.Made.{tells}
 
@@ -32,11 +34,7 @@ abbrev pub broken_at : Place → Option ℕ → List Broken
 broken_at p None = []
 broken_at p (Some r) = record { rule = r; node = p.at; first = p.first } ∷ []
 
--- what an expression tells, and what is broken in it
-pub record Found : Type 0 where
-  pub info : Option Info
-  pub broken : List Broken
-
+-- what expressions tell, and what is broken in them
 abbrev pub infos_in : List Found → List (Option Info)
 infos_in [] = []
 infos_in (f ∷ fs) = f.info ∷ infos_in fs
@@ -54,6 +52,14 @@ abbrev pub name_of : Value → Option Text
 name_of (Node' place what types m row) = name_at what
 
 -- the name that a call calls
+abbrev pub name_of_first : List Value → Option Text
+name_of_first [] = None
+name_of_first (v ∷ vs) = name_of v
+
+abbrev pub called_in : Operation → List Value → Option Text
+called_in operation.Call parts = name_of_first parts
+called_in _ parts = None
+
 abbrev pub first_name : {m : _} → Row_of-Value m → Option Text
 first_name end_of-Value = None
 first_name (more_of-Value v vs) = name_of v
@@ -71,20 +77,24 @@ abbrev pub kept_by : Option Info → List VarType
 kept_by None = []
 kept_by (Some i) = i.kept
 
--- a node with what its parts tell
-abbrev pub node : Place → Operation → List TypeUse → Option Text → List Found → Node
-node place what types name fs =
-    record { place = place; what = what; types = types; called = name; parts = infos_in fs }
+-- the context behind an expression
+abbrev pub behind_info : Option Info → Context → Context
+behind_info i c = behind (kept_by i) [] 0 c
 
-abbrev pub found_at : Context → Node → List Found → Found
-found_at c n fs =
-    record { info = tells c n; broken = innermost n.place (broken_in fs ++ broken_at n.place (lowest c n)) }
+-- a node with what its parts tell
+abbrev pub node : Place → Operation → List TypeUse → Option Text → List (Option Info) → Node
+node place what types name parts =
+    record { place = place; what = what; types = types; called = name; parts = parts }
+
+abbrev pub found_at : Context → Node → List Broken → Found
+found_at c n inner =
+    record { info = tells c n; broken = innermost n.place (inner ++ broken_at n.place (lowest c n)) }
 
 abbrev mutual
   pub found : Context → Value → Found
   found c (Node' place what types m row) =
       let fs = founds c (is_named (called what row)) row in
-      found_at c (node place what types (called what row) fs) fs
+      found_at c (node place what types (called what row) (infos_in fs)) (broken_in fs)
 
   -- those behind the name that is called; behind an expression its locals are taken
   pub founds : Context → Bool → {m : _} → Row_of-Value m → List Found
@@ -92,11 +102,24 @@ abbrev mutual
   founds c true (more_of-Value v vs) = founds c false vs
   founds c false (more_of-Value v vs) =
       let f = found c v in
-      f ∷ founds (behind (kept_by f.info) [] 0 c) false vs
+      f ∷ founds (behind_info f.info c) false vs
 
 -- expressions one after another
 abbrev pub found_all : Context → List Value → List Found
 found_all c [] = []
 found_all c (v ∷ vs) =
     let f = found c v in
-    f ∷ found_all (behind (kept_by f.info) [] 0 c) vs
+    f ∷ found_all (behind_info f.info c) vs
+
+abbrev pub founds_of : List Found → Founds
+founds_of fs = record { infos = infos_in fs; broken = broken_in fs }
+
+-- the parts of a node that tell something: all, but not a name that is called
+abbrev pub told_parts : Bool → List Value → List Value
+told_parts true (v ∷ vs) = vs
+told_parts _ vs = vs
+
+-- the context behind expressions
+abbrev pub all_behind : Context → List Value → Context
+all_behind c [] = c
+all_behind c (v ∷ vs) = all_behind (behind_info (found c v).info c) vs

@@ -103,17 +103,19 @@ abbrev pub postfix_info : Step → Info → Option Info
 postfix_info step.Increment i = bumped bump.MoreAfter i
 postfix_info step.Decrement i = bumped bump.LessAfter i
 
+-- a condition, and one of two values
+abbrev pub choose : Expression → Expression → Expression → Expression
+choose test a b = expression.Choose (test ∷ a ∷ b ∷ [])
+
 -- `&&` and `||`: the second is looked at where the first does not decide
 abbrev pub a_truth : Bool → Expression
 a_truth b = expression.Constant (value.Num kind.Bool (truth b))
 
 abbrev pub both : Info → Info → Info
-both i j =
-    a_value bool (i.kept ++ j.kept) (expression.Choose (condition i ∷ condition j ∷ a_truth false ∷ []))
+both i j = a_value bool (i.kept ++ j.kept) (choose (condition i) (condition j) (a_truth false))
 
 abbrev pub either_of : Info → Info → Info
-either_of i j =
-    a_value bool (i.kept ++ j.kept) (expression.Choose (condition i ∷ a_truth true ∷ condition j ∷ []))
+either_of i j = a_value bool (i.kept ++ j.kept) (choose (condition i) (a_truth true) (condition j))
 
 -- an operator of two values, in its sort
 abbrev pub in_binary_sort : IntOperator → Info → Info → Sort → Info
@@ -135,8 +137,7 @@ binary_info o i j = on (int_operator o) (λ q. by_operator q i j)
 -- `?:`: the branches are taken into their common type
 abbrev pub choice : Info → Info → Info → Base → Info
 choice test i j b =
-    a_value b (test.kept ++ (i.kept ++ j.kept))
-    (expression.Choose (condition test ∷ converted b i ∷ converted b j ∷ []))
+    a_value b (test.kept ++ (i.kept ++ j.kept)) (choose (condition test) (converted b i) (converted b j))
 
 abbrev pub branch_base : Info → Info → Option Base
 branch_base i j = on (value_base i) (λ a. on (value_base j) (branches a))
@@ -145,9 +146,11 @@ abbrev pub conditional_info : Info → Info → Info → Option Info
 conditional_info test i j = option_map (choice test i j) (branch_base i j)
 
 -- assignments: the right side first; the value is of the place's type
+abbrev pub assigned : Info → Info → Base → Info
+assigned i j b = a_value b (i.kept ++ j.kept) (on_two operator.Keep (converted b j) i.typed)
+
 abbrev pub assign_info : Info → Info → Option Info
-assign_info i j =
-    on_base i (λ b. Some (a_value b (i.kept ++ j.kept) (on_two operator.Keep (converted b j) i.typed)))
+assign_info i j = option_map (assigned i j) (value_base i)
 
 abbrev pub updated : IntOperator → Info → Info → Base → Sort → Info
 updated o i j b s = a_value b (i.kept ++ j.kept) (on_two (operator.Update o s) (into_sort s j) i.typed)
@@ -162,26 +165,31 @@ update_info o i j = on (int_operator o) (λ q. update_by q i j)
 abbrev pub element_type : DataType → DataType
 element_type t = record { base = t.base; dimensions = element_dimensions t.dimensions }
 
+abbrev pub element_at : Info → Info → DataType → Info
+element_at i j t =
+    a_place (element_type t) i.standing (i.kept ++ j.kept) (on_two operator.Index i.typed (value_of j))
+
 abbrev pub index_info : Info → Info → Option Info
-index_info i j =
-    option_map (λ (t : DataType).
-    a_place (element_type t) i.standing (i.kept ++ j.kept) (on_two operator.Index i.typed (value_of j))) i.of
+index_info i j = option_map (element_at i j) i.of
 
 -- a field; a structure that is no place is kept in a local of its own first
 abbrev pub local : ℕ → Expression
 local n = expression.Apply (operator.Local n) []
 
-abbrev pub keeps : ℕ → Info → Expression
-keeps n i = on_two operator.Keep i.typed (local n)
+abbrev pub field_of_local : ℕ → ℕ → Expression → Expression
+field_of_local l n e =
+    expression.After (on_two operator.Keep e (local l) ∷ []) (on_one (operator.Field n) (local l) ∷ [])
 
 abbrev pub kept_field : ℕ → ℕ → DataType → DataType → Info → Info
 kept_field l n whole t i =
-    a_place t stand.Kept (i.kept ++ var_type whole ∷ [])
-    (expression.After (keeps l i ∷ []) (on_one (operator.Field n) (local l) ∷ []))
+    a_place t stand.Kept (i.kept ++ var_type whole ∷ []) (field_of_local l n i.typed)
 
 abbrev pub placed_field : ℕ → DataType → Info → Info
 placed_field n t i = a_place t i.standing i.kept (on_one (operator.Field n) i.typed)
 
 -- a value taken into a type
+abbrev pub cast_to : Info → Base → Info
+cast_to i b = a_value b i.kept (converted b i)
+
 abbrev pub cast_info : Option Base → Info → Option Info
-cast_info b i = option_map (λ t. a_value t i.kept (converted t i)) b
+cast_info b i = option_map (cast_to i) b

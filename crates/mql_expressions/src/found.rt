@@ -1,0 +1,86 @@
+//! What is found in an expression.
+ghost use Rattle.std.specs.Prelude.{◌≡◌, ◌++◌, IfOk};
+ghost use Rattle.mql_expressions.specs.Values.{below, innermost, broken_at, kept_by};
+
+use fx8::{ItemList, OutOfMemory};
+use mql_meaning::VarType;
+use mql_names::Broken;
+use mql_syntax::Place;
+use mql_typed::Info;
+use std::alloc::Global;
+
+/// What an expression tells, and what is broken in it.
+#[derive(Drop)]
+pub struct Found {
+    /// None where it breaks a rule.
+    pub info: Option<Info>,
+    /// The broken rules that may be told of: those of nodes that break one where none below them does.
+    pub broken: ItemList<Broken>,
+}
+
+/// What expressions tell, one after another, and what is broken in them.
+#[derive(Drop)]
+pub struct Founds {
+    pub infos: ItemList<Option<Info>>,
+    pub broken: ItemList<Broken>,
+}
+
+fn below(alloc: Global, at: u32, all: &[Broken]) -> Result<ItemList<Broken>, OutOfMemory>
+    ensures { IfOk result (λ r. r ≡ below at all.now) }
+{
+    let mut inner = ItemList::new(alloc);
+    let mut rest = all;
+    while let [b, others @ ..] = rest {
+        if b.node != at {
+            inner.push(*b)?;
+        }
+        rest = others;
+    }
+    Ok(inner)
+}
+
+/// Of what is broken at a node and in its parts: what is below it, if there is any.
+pub(crate) fn innermost(
+    alloc: Global,
+    place: Place,
+    all: ItemList<Broken>,
+) -> Result<ItemList<Broken>, OutOfMemory>
+    ensures { IfOk result (λ r. r ≡ innermost place all) }
+{
+    let inner = below(alloc, place.at, all.as_slice())?;
+    if inner.is_empty() {
+        return Ok(all);
+    }
+    Ok(inner)
+}
+
+/// What is broken, and a rule that is broken at a place behind it, if there is one.
+pub(crate) fn with_rule(
+    mut all: ItemList<Broken>,
+    place: Place,
+    rule: Option<u8>,
+) -> Result<ItemList<Broken>, OutOfMemory>
+    ensures { IfOk result (λ r. r ≡ all ++ broken_at place rule) }
+{
+    match rule {
+        None => Ok(all),
+        Some(number) => {
+            all.push(Broken {
+                rule: number,
+                node: place.at,
+                first: place.first,
+            })?;
+            Ok(all)
+        }
+    }
+}
+
+/// The locals that an expression takes.
+pub(crate) fn kept_by(info: &Option<Info>) -> &[VarType]
+    ensures { result.now ≡ kept_by info.now }
+{
+    match info {
+        None => &[],
+        Some(i) => i.kept.as_slice(),
+    }
+}
