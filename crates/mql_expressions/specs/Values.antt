@@ -11,8 +11,8 @@ use Rattle.mql_names.specs.declared.fault.Broken.{Broken}
 use Rattle.mql_typed.specs.declared.info.Info.{Info}
 use Rattle.mql_scope.specs.Contexts.{Text, Context, behind}
 use Rattle.mql_calls.specs.Nodes.{Node}
-use Rattle.mql_expressions.specs.declared.found.Found.{Found}
-use Rattle.mql_expressions.specs.declared.found.Founds.{Founds}
+pub use Rattle.mql_expressions.specs.declared.findings.Found.{Found}
+pub use Rattle.mql_expressions.specs.declared.findings.Founds.{Founds}
 use Rattle.mql_expressions.specs.Rules.{lowest}
 use Rattle.mql_expressions.specs.Made.{tells}
 

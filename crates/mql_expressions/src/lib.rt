@@ -2,12 +2,15 @@
 #![tactic(auto)]
 
 mod calls;
+mod findings;
 mod handed;
 mod lowest;
+mod made;
 mod members;
 mod node;
 mod operands;
 mod tests;
+mod values;
 
-pub use lowest::lowest;
-pub use node::NodeView;
+pub use findings::{Found, Founds};
+pub use values::{found, found_all};

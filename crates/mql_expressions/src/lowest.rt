@@ -123,7 +123,7 @@ fn lowest_of_others<P: ProgramFacts>(
 }
 
 /// The lowest rule of expressions that a node breaks, if it breaks one.
-pub fn lowest<P: ProgramFacts>(
+pub(crate) fn lowest<P: ProgramFacts>(
     alloc: Global,
     here: &Here<'_, P>,
     n: &NodeView,

@@ -10,7 +10,7 @@ use mql_types::Base;
 
 /// A node of an expression with what its parts tell: none where a part breaks a rule.
 #[derive(Clone, Copy)]
-pub struct NodeView<'a> {
+pub(crate) struct NodeView<'a> {
     /// Where it stands.
     pub place: Place,
     /// What it does.

@@ -5,7 +5,7 @@ ghost use Rattle.mql_expressions.specs.Views.{node_of};
 ghost use Rattle.mql_expressions.specs.Made.{judged};
 ghost use Rattle.mql_expressions.specs.Values.{name_at, name_of, name_of_first, called_in, told_parts, behind_info, node, found_at, found, found_all, founds_of};
 
-use crate::found::{Found, Founds, innermost, kept_by, with_rule};
+use crate::findings::{Found, Founds, innermost, kept_by, with_rule};
 use crate::lowest::lowest;
 use crate::made::made_at;
 use crate::node::NodeView;
@@ -47,20 +47,6 @@ fn called_in<'a>(what: &Operation, parts: &'a [Value]) -> Option<&'a [u16]>
     match what {
         Operation::Call => first_name(parts),
         _ => None,
-    }
-}
-
-/// The parts of a node that tell something: all, but not a name that is called.
-fn told_parts(named: bool, parts: &[Value]) -> &[Value]
-    ensures { result.now ≡ told_parts named parts.now }
-{
-    if named {
-        match parts {
-            [] => parts,
-            [_, others @ ..] => others,
-        }
-    } else {
-        parts
     }
 }
 
@@ -140,10 +126,29 @@ pub fn found<P: ProgramFacts>(
             parts,
         } => {
             let called = called_in(what, parts.as_slice());
-            let own = told_parts(called.is_some(), parts.as_slice());
-            let inner = found_all(alloc, here, own)?;
+            if called.is_some() {
+                let inner = found_behind(alloc, here, parts.as_slice())?;
+                return found_at(alloc, here, *place, what, types.as_slice(), called, inner);
+            }
+            let inner = found_all(alloc, here, parts.as_slice())?;
             found_at(alloc, here, *place, what, types.as_slice(), called, inner)
         }
+    }
+}
+
+/// The same of the values behind the first.
+#[cycle(found)]
+fn found_behind<P: ProgramFacts>(
+    alloc: Global,
+    here: &Here<'_, P>,
+    values: &[Value],
+) -> Result<Founds, OutOfMemory>
+    ensures { IfOk result (λ r. r ≡
+        founds_of (found_all (context_at P.program here.now) (told_parts true values.now))) }
+{
+    match values {
+        [] => found_all(alloc, here, values),
+        [_, others @ ..] => found_all(alloc, here, others),
     }
 }
 
@@ -162,8 +167,12 @@ pub fn found_all<P: ProgramFacts>(
     for v in values {
         let f = found(alloc, &at, v)?;
         at = behind(&at, &f.info)?;
-        infos.push(f.info)?;
-        broken.append(f.broken)?;
+        let Found {
+            info,
+            broken: more,
+        } = f;
+        infos.push(info)?;
+        broken.append(more)?;
     }
     Ok(Founds { infos, broken })
 }

@@ -1,11 +1,12 @@
 -- What operations on expressions give, with their typed expressions, one definition an operation (MQL5 Reference,
 -- Language Basics, Operations and Expressions).
-use Rattle.std.specs.Prelude.{ℕ, ℤ, pos, Bool, true, false, [], ◌∷◌, ◌++◌, Option, Some, None, option_map, if◌then◌else◌}
+use Rattle.std.specs.Prelude.{ℕ, ℤ, pos, Bool, true, false, List, [], ◌∷◌, ◌++◌, Option, Some, None, option_map, if◌then◌else◌}
 use Rattle.fx8.specs.declared.int_kind.IntKind.TheVariants as kind
 use Rattle.fx8.specs.declared.int_operator.IntOperator.{IntOperator}
 use Rattle.fx8.specs.declared.int_operator.IntOperator.TheVariants as op
 use Rattle.mql_mean.specs.declared.value.Value.{Value}
 use Rattle.mql_mean.specs.declared.value.Value.TheVariants as value
+use Rattle.mql_meaning.specs.declared.types.VarType.{VarType}
 use Rattle.mql_meaning.specs.declared.types.Sort.{Sort}
 use Rattle.mql_meaning.specs.declared.types.Sort.TheVariants as sort
 use Rattle.mql_meaning.specs.declared.operator.Operator.TheVariants as operator
@@ -26,6 +27,7 @@ use Rattle.mql_types.specs.Types.{element_dimensions, sort_base}
 use Rattle.mql_types.specs.Operators.{bool, binary_sort, result_base, unary_sort, branches}
 use Rattle.mql_typed.specs.declared.info.Info.{Info}
 use Rattle.mql_typed.specs.declared.info.Standing.TheVariants as stand
+use Rattle.mql_typed.specs.declared.binary.Parts.{Parts}
 use Rattle.mql_typed.specs.Typed.{on_one, on_two, value_base, value_of, into_sort, converted, condition, var_type, a_value, a_place}
 
 -- the operator of two numbers or strings that an operator is; `&&` and `||` are none
@@ -103,19 +105,30 @@ abbrev pub postfix_info : Step → Info → Option Info
 postfix_info step.Increment i = bumped bump.MoreAfter i
 postfix_info step.Decrement i = bumped bump.LessAfter i
 
--- a condition, and one of two values
-abbrev pub choose : Expression → Expression → Expression → Expression
-choose test a b = expression.Choose (test ∷ a ∷ b ∷ [])
-
--- `&&` and `||`: the second is looked at where the first does not decide
 abbrev pub a_truth : Bool → Expression
 a_truth b = expression.Constant (value.Num kind.Bool (truth b))
 
+-- the parts of a choice, with the locals that they take, one after another, and the choice
+abbrev pub no_parts : Parts
+no_parts = record { typed = []; kept = [] }
+
+abbrev pub with_part : Parts → Expression → List VarType → Parts
+with_part p e kept = record { typed = p.typed ++ e ∷ []; kept = p.kept ++ kept }
+
+abbrev pub with_truth : Parts → Bool → Parts
+with_truth p b = record { typed = p.typed ++ a_truth b ∷ []; kept = p.kept }
+
+abbrev pub chosen : Base → Parts → Info
+chosen b p = a_value b p.kept (expression.Choose p.typed)
+
+-- `&&` and `||`: the second is looked at where the first does not decide
 abbrev pub both : Info → Info → Info
-both i j = a_value bool (i.kept ++ j.kept) (choose (condition i) (condition j) (a_truth false))
+both i j =
+    a_value bool (i.kept ++ j.kept) (expression.Choose (condition i ∷ condition j ∷ a_truth false ∷ []))
 
 abbrev pub either_of : Info → Info → Info
-either_of i j = a_value bool (i.kept ++ j.kept) (choose (condition i) (a_truth true) (condition j))
+either_of i j =
+    a_value bool (i.kept ++ j.kept) (expression.Choose (condition i ∷ a_truth true ∷ condition j ∷ []))
 
 -- an operator of two values, in its sort
 abbrev pub in_binary_sort : IntOperator → Info → Info → Sort → Info
@@ -137,7 +150,8 @@ binary_info o i j = on (int_operator o) (λ q. by_operator q i j)
 -- `?:`: the branches are taken into their common type
 abbrev pub choice : Info → Info → Info → Base → Info
 choice test i j b =
-    a_value b (test.kept ++ (i.kept ++ j.kept)) (choose (condition test) (converted b i) (converted b j))
+    a_value b ((test.kept ++ i.kept) ++ j.kept)
+    (expression.Choose (condition test ∷ converted b i ∷ converted b j ∷ []))
 
 abbrev pub branch_base : Info → Info → Option Base
 branch_base i j = on (value_base i) (λ a. on (value_base j) (branches a))

@@ -1,7 +1,8 @@
 //! Operators between two expressions, and `?:`.
 ghost use Rattle.std.specs.Prelude.{◌≡◌, ◌++◌, IfOk};
 ghost use Rattle.mql_types.specs.Operators.{bool};
-ghost use Rattle.mql_typed.specs.Operations.{on, truth, a_truth, choose, both, either_of, in_binary_sort, sort_for, by_operator, binary_info, choice, branch_base, conditional_info};
+ghost use Rattle.mql_typed.specs.Typed.{condition, converted};
+ghost use Rattle.mql_typed.specs.Operations.{on, truth, a_truth, no_parts, with_part, with_truth, chosen, both, either_of, in_binary_sort, sort_for, by_operator, binary_info, choice, branch_base, conditional_info};
 
 use crate::info::Info;
 use crate::typed::{a_value, condition, converted, into_sort, on_two, value_base};
@@ -43,41 +44,79 @@ fn bool_base() -> Base
     Base::Simple(SimpleType::Integer(IntKind::Bool))
 }
 
-fn choose(
-    alloc: Global,
-    test: Expression,
-    a: Expression,
-    b: Expression,
-) -> Result<Expression, OutOfMemory>
-    ensures { IfOk result (λ e. e ≡ choose test a b) }
+/// Parts of a choice, and the locals that they take.
+#[derive(Drop)]
+struct Parts {
+    typed: ItemList<Expression>,
+    kept: ItemList<VarType>,
+}
+
+fn no_parts(alloc: Global) -> Parts
+    ensures { result ≡ no_parts }
 {
-    let mut parts = ItemList::new(alloc);
-    parts.push(test)?;
-    parts.push(a)?;
-    parts.push(b)?;
-    Ok(Expression::Choose(parts))
+    Parts {
+        typed: ItemList::new(alloc),
+        kept: ItemList::new(alloc),
+    }
+}
+
+fn with_part(p: Parts, e: Expression, more: ItemList<VarType>) -> Result<Parts, OutOfMemory>
+    ensures { IfOk result (λ r. r ≡ with_part p e more) }
+{
+    let Parts {
+        mut typed,
+        mut kept,
+    } = p;
+    typed.push(e)?;
+    kept.append(more)?;
+    Ok(Parts { typed, kept })
+}
+
+fn with_condition(alloc: Global, p: Parts, i: Info) -> Result<Parts, OutOfMemory>
+    ensures { IfOk result (λ r. r ≡ with_part p (condition i) i.kept) }
+{
+    let (e, kept) = condition(alloc, i)?;
+    with_part(p, e, kept)
+}
+
+fn with_converted(alloc: Global, p: Parts, b: Base, i: Info) -> Result<Parts, OutOfMemory>
+    ensures { IfOk result (λ r. r ≡ with_part p (converted b i) i.kept) }
+{
+    let (e, kept) = converted(alloc, b, i)?;
+    with_part(p, e, kept)
+}
+
+fn with_truth(p: Parts, b: bool) -> Result<Parts, OutOfMemory>
+    ensures { IfOk result (λ r. r ≡ with_truth p b) }
+{
+    let Parts { mut typed, kept } = p;
+    typed.push(a_truth(b))?;
+    Ok(Parts { typed, kept })
+}
+
+fn chosen(b: Base, p: Parts) -> Info
+    ensures { result ≡ chosen b p }
+{
+    let Parts { typed, kept } = p;
+    a_value(b, kept, Expression::Choose(typed))
 }
 
 fn both(alloc: Global, i: Info, j: Info) -> Result<Info, OutOfMemory>
     ensures { IfOk result (λ r. r ≡ both i j) }
 {
-    let (test, own) = condition(alloc, i)?;
-    let (other, more) = condition(alloc, j)?;
-    let kept = joined(own, more)?;
-    let no = a_truth(false);
-    let e = choose(alloc, test, other, no)?;
-    Ok(a_value(bool_base(), kept, e))
+    let first = with_condition(alloc, no_parts(alloc), i)?;
+    let second = with_condition(alloc, first, j)?;
+    let all = with_truth(second, false)?;
+    Ok(chosen(bool_base(), all))
 }
 
 fn either_of(alloc: Global, i: Info, j: Info) -> Result<Info, OutOfMemory>
     ensures { IfOk result (λ r. r ≡ either_of i j) }
 {
-    let (test, own) = condition(alloc, i)?;
-    let (other, more) = condition(alloc, j)?;
-    let kept = joined(own, more)?;
-    let yes = a_truth(true);
-    let e = choose(alloc, test, yes, other)?;
-    Ok(a_value(bool_base(), kept, e))
+    let first = with_condition(alloc, no_parts(alloc), i)?;
+    let second = with_truth(first, true)?;
+    let all = with_condition(alloc, second, j)?;
+    Ok(chosen(bool_base(), all))
 }
 
 fn in_binary_sort(
@@ -165,13 +204,10 @@ pub fn binary_info(
 fn choice(alloc: Global, test: Info, i: Info, j: Info, b: Base) -> Result<Info, OutOfMemory>
     ensures { IfOk result (λ r. r ≡ choice test i j b) }
 {
-    let (t, own) = condition(alloc, test)?;
-    let (x, more) = converted(alloc, b, i)?;
-    let (y, last) = converted(alloc, b, j)?;
-    let rest = joined(more, last)?;
-    let kept = joined(own, rest)?;
-    let e = choose(alloc, t, x, y)?;
-    Ok(a_value(b, kept, e))
+    let first = with_condition(alloc, no_parts(alloc), test)?;
+    let second = with_converted(alloc, first, b, i)?;
+    let all = with_converted(alloc, second, b, j)?;
+    Ok(chosen(b, all))
 }
 
 fn branch_base(i: &Info, j: &Info) -> Option<Base>

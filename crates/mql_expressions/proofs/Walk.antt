@@ -1,0 +1,140 @@
+-- The walk over expressions, in parts.
+use Rattle.std.proofs.Common.{◌≡◌, Bool, true, false, List, [], ◌∷◌, ◌++◌, Option, Some, None, refl, sym, ap, ◌∙◌}
+use Rattle.std.proofs.lemmas.List.{append-nil, append_assoc}
+use Rattle.mql_syntax.specs.declared.kind.Place.{Place}
+use Rattle.mql_syntax.specs.declared.value.TypeUse.{TypeUse}
+use Rattle.mql_syntax.specs.declared.value.Operation.{Operation}
+use Rattle.mql_syntax.specs.declared.value.Operation.TheVariants as operation
+use Rattle.mql_syntax.specs.declared.value.Value as value
+use Rattle.mql_syntax.specs.declared.value.Value.{Value, out-Value, roll-Value, roll-out-Value, Row_of-Value, end_of-Value, more_of-Value, items-the_row-Value, items_hidden-the_row-Value-0}
+use Rattle.mql_syntax.specs.declared.value.Value.TheOpen.{Value-F}
+use Rattle.mql_syntax.specs.declared.value.Value.TheVariants as values
+use mathlib.Core.Former.{Count}
+use denote.Hole.Carrier.{roll}
+use Rattle.mql_names.specs.declared.fault.Broken.{Broken}
+use Rattle.mql_typed.specs.declared.info.Info.{Info}
+use Rattle.mql_scope.specs.Contexts.{Text, Context}
+use Rattle.mql_expressions.specs.declared.findings.Found.{Found}
+use Rattle.mql_expressions.specs.declared.findings.Founds.{Founds}
+use Rattle.mql_expressions.specs.Values.{infos_in, broken_in, name_of, name_of_first, called_in, first_name, called, is_named, behind_info, node, found_at, found, founds, found_all, founds_of, told_parts, all_behind}
+
+-- parts as a list
+founds_of_row : (n : _) (c : Context) (row : Row_of-Value n) → founds c false row ≡ found_all c (items-the_row-Value n row)
+founds_of_row n c end_of-Value = refl
+founds_of_row n c (more_of-Value v vs) =
+    ap (λ fs. found c v ∷ fs) (founds_of_row _ (behind_info (found c v).info c) vs)
+
+founds_behind : (n : _) (c : Context) (b : Bool) (row : Row_of-Value n)
+    → founds c b row ≡ found_all c (told_parts b (items-the_row-Value n row))
+founds_behind n c true end_of-Value = refl
+founds_behind n c true (more_of-Value v vs) = founds_of_row _ c vs
+founds_behind n c false row = founds_of_row n c row
+
+first_of_row : (n : _) (row : Row_of-Value n) → first_name row ≡ name_of_first (items-the_row-Value n row)
+first_of_row n end_of-Value = refl
+first_of_row n (more_of-Value v vs) = refl
+
+called_of_row : (n : _) (o : Operation) (row : Row_of-Value n) → called o row ≡ called_in o (items-the_row-Value n row)
+called_of_row n operation.Call row = first_of_row n row
+called_of_row n _ row = refl
+
+-- what a value is made of
+abbrev place_in : Value-F Value → Place
+place_in (Value-F.Node place what types parts) = place
+
+abbrev what_in : Value-F Value → Operation
+what_in (Value-F.Node place what types parts) = what
+
+abbrev types_in : Value-F Value → List TypeUse
+types_in (Value-F.Node place what types parts) = types
+
+abbrev parts_in : Value-F Value → List Value
+parts_in (Value-F.Node place what types parts) = parts
+
+abbrev pub value_place : Value → Place
+value_place v = place_in (out-Value v)
+
+abbrev pub value_what : Value → Operation
+value_what v = what_in (out-Value v)
+
+abbrev pub value_types : Value → List TypeUse
+value_types v = types_in (out-Value v)
+
+abbrev pub value_parts : Value → List Value
+value_parts v = parts_in (out-Value v)
+
+abbrev value_row : Value → (n : Count) × Row_of-Value n
+value_row (value.Node' place what types _ row) = (_, row)
+
+abbrev found_with : Context → Place → Operation → List TypeUse → Option Text → List Found → Found
+found_with c p o types x fs = found_at c (node p o types x (infos_in fs)) (broken_in fs)
+
+abbrev made_found : Context → Place → Operation → List TypeUse → List Value → Found
+made_found c p o types parts =
+    found_with c p o types (called_in o parts) (found_all c (told_parts (is_named (called_in o parts)) parts))
+
+found_in_row : (n : _) (c : Context) (p : Place) (o : Operation) (types : List TypeUse) (row : Row_of-Value n)
+    → found_with c p o types (called o row) (founds c (is_named (called o row)) row)
+    ≡ made_found c p o types (items-the_row-Value n row)
+found_in_row n c p o types row =
+    ap (λ x. found_with c p o types x (founds c (is_named x) row)) (called_of_row n o row)
+    ∙ ap (found_with c p o types (called_in o (items-the_row-Value n row)))
+    (founds_behind n c (is_named (called_in o (items-the_row-Value n row))) row)
+
+found_of_node : (c : Context) (p : Place) (o : Operation) (types : List TypeUse) (parts : List Value)
+    → found c (values.Node p o types parts) ≡ made_found c p o types parts
+found_of_node c p o types parts =
+    let row = value_row (values.Node p o types parts) in
+    found_in_row row.0 c p o types row.1 ∙ ap (made_found c p o types) (items_hidden-the_row-Value-0 parts)
+
+found_of_rolled : (c : Context) (w : Value-F Value)
+    → found c (roll-Value w) ≡ made_found c (place_in w) (what_in w) (types_in w) (parts_in w)
+unfolding roll-Value denote.Hole.Carrier.roll
+found_of_rolled c (Value-F.Node p o types parts) = found_of_node c p o types parts
+
+found_of_value : (c : Context) (v : Value)
+    → found c v ≡ made_found c (value_place v) (value_what v) (value_types v) (value_parts v)
+found_of_value c v = ap (found c) (sym (roll-out-Value v)) ∙ found_of_rolled c (out-Value v)
+
+-- what is found at a value, from what is found in its parts
+pub at_value : (c : Context) (v : Value) (p : Place) (o : Operation) (types : List TypeUse) (parts : List Value)
+    (x : Option Text) (b : Bool) (fs : Founds) (r : Found)
+    → p ≡ value_place v → o ≡ value_what v → types ≡ value_types v → parts ≡ value_parts v
+    → x ≡ called_in o parts → b ≡ is_named x → fs ≡ founds_of (found_all c (told_parts b parts))
+    → r ≡ found_at c (node p o types x fs.infos) fs.broken → r ≡ found c v
+at_value c v p o types parts x b fs r e1 e2 e3 e4 h k l s =
+    s ∙ ap (λ (gs : Founds). found_at c (node p o types x gs.infos) gs.broken) l
+    ∙ ap (λ (d : Bool). found_with c p o types x (found_all c (told_parts d parts))) k
+    ∙ ap (λ (y : Option Text). found_with c p o types y (found_all c (told_parts (is_named y) parts))) h
+    ∙ ap (λ q. made_found c q o types parts) e1
+    ∙ ap (λ q. made_found c (value_place v) q types parts) e2
+    ∙ ap (λ q. made_found c (value_place v) (value_what v) q parts) e3
+    ∙ ap (made_found c (value_place v) (value_what v) (value_types v)) e4
+    ∙ sym (found_of_value c v)
+
+-- one more of a list
+pub found_more : (c : Context) (vs : List Value) (v : Value)
+    → found_all c (vs ++ v ∷ []) ≡ found_all c vs ++ found (all_behind c vs) v ∷ []
+found_more c [] v = refl
+found_more c (w ∷ ws) v = ap (λ fs. found c w ∷ fs) (found_more (behind_info (found c w).info c) ws v)
+
+pub behind_more : (c : Context) (vs : List Value) (v : Value)
+    → all_behind c (vs ++ v ∷ []) ≡ behind_info (found (all_behind c vs) v).info (all_behind c vs)
+behind_more c [] v = refl
+behind_more c (w ∷ ws) v = behind_more (behind_info (found c w).info c) ws v
+
+infos_more : (fs : List Found) (f : Found) → infos_in (fs ++ f ∷ []) ≡ infos_in fs ++ f.info ∷ []
+infos_more [] f = refl
+infos_more (g ∷ gs) f = ap (λ is. g.info ∷ is) (infos_more gs f)
+
+broken_more : (fs : List Found) (f : Found) → broken_in (fs ++ f ∷ []) ≡ broken_in fs ++ f.broken
+broken_more [] f = append-nil f.broken
+broken_more (g ∷ gs) f = ap (λ bs. g.broken ++ bs) (broken_more gs f) ∙ sym (append_assoc g.broken (broken_in gs) f.broken)
+
+pub all_infos_more : (c : Context) (vs : List Value) (v : Value)
+    → infos_in (found_all c (vs ++ v ∷ [])) ≡ infos_in (found_all c vs) ++ (found (all_behind c vs) v).info ∷ []
+all_infos_more c vs v = ap infos_in (found_more c vs v) ∙ infos_more (found_all c vs) (found (all_behind c vs) v)
+
+pub all_broken_more : (c : Context) (vs : List Value) (v : Value)
+    → broken_in (found_all c (vs ++ v ∷ [])) ≡ broken_in (found_all c vs) ++ (found (all_behind c vs) v).broken
+all_broken_more c vs v = ap broken_in (found_more c vs v) ∙ broken_more (found_all c vs) (found (all_behind c vs) v)
