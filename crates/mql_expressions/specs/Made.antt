@@ -14,7 +14,9 @@ use Rattle.mql_typed.specs.declared.info.Info.{Info}
 use Rattle.mql_typed.specs.Typed.{is_place}
 use Rattle.mql_typed.specs.Operations.{on, literal, truth, unary_info, postfix_info, binary_info, conditional_info, assign_info, update_info, index_info, kept_field, placed_field, cast_info}
 use Rattle.mql_scope.specs.Contexts.{Text, Context}
-use Rattle.mql_scope.specs.Names.{Callee, Functions, Conversion, Supplied, Other, Unknown, name_info, callee}
+use Rattle.mql_scope.specs.declared.names.Callee.{Callee}
+use Rattle.mql_scope.specs.declared.names.Callee.TheVariants.{Functions, Conversion, Supplied, Other, Unknown}
+use Rattle.mql_scope.specs.Names.{name_info, callee}
 use Rattle.mql_calls.specs.Nodes.{Node, nth, told, arguments}
 use Rattle.mql_calls.specs.Calls.{chosen, call_info}
 use Rattle.mql_calls.specs.NativeCalls.{native_info}

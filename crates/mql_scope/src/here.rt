@@ -73,7 +73,8 @@ impl<'a, P: ProgramFacts> Here<'a, P> {
 
     /// The place behind expressions that take locals.
     pub fn behind_values(&self, taken: &[VarType]) -> Result<Here<'a, P>, OutOfMemory>
-        ensures { IfOk result (λ h. context_at P.program h ≡ behind taken.now [] 0 (context_at P.program self.now)) }
+        ensures { IfOk result (λ h. context_at P.program h ≡
+            behind taken.now [] 0 (context_at P.program self.now)) }
     {
         Ok(Here {
             next: counted(self.next, taken.len())?,
