@@ -3,5 +3,9 @@
 #![tactic(auto)]
 
 mod context;
+mod facts;
+mod here;
 
 pub use context::{Enumeration, Field, Known, Layout, Storage};
+pub use facts::ProgramFacts;
+pub use here::Here;
