@@ -173,9 +173,9 @@ unfolding program_of breaks_bodies Types.word_sort Types.own_sort Types.named_so
 misses items = breaks_bodies given (record { place = at 0; nodes = 1; items = items })
 
 no_body_called : misses (calling (number 5 1)) ≡ record { rule = 9; node = 1; first = 1 } ∷ []
-unfolding misses calling announces returning function int double words given
+unfolding misses calling announces returning function variable int double words given
 no_body_called = refl
 
 other_called : misses (calling (real 5 (pos 150000000))) ≡ []
-unfolding misses calling announces returning function int double words given
+unfolding misses calling announces returning function variable int double words given
 other_called = refl
