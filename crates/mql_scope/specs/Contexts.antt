@@ -20,7 +20,7 @@ Text = List ℕ
 
 -- the whole program: what its names mean; structures, the supplied ones first; enumerations; global variables;
 -- functions with the defaults of their parameters, each by its function's number and its place; the constant
--- that an expression is, if it is one; the line and the file of a node
+-- that an expression is where these locals are in force, if it is one; the line and the file of a node
 pub record Program : Type 0 where
   pub names : Names
   pub structures : List Layout
@@ -28,7 +28,7 @@ pub record Program : Type 0 where
   pub globals : List Known
   pub functions : List Signature
   pub default : ℕ → ℕ → Option Value
-  pub constant : syntax.Value → Option Value
+  pub constant : List Known → syntax.Value → Option Value
   pub line : Place → ℕ
   pub file : Place → Text
 

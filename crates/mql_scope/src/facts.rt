@@ -53,9 +53,14 @@ pub trait ProgramFacts {
     ) -> Result<Option<Value>, OutOfMemory>
         ensures { IfOk result (λ v. v ≡ (program self.now).default function parameter) };
 
-    /// The constant that an expression is, if it is one.
-    fn constant(&self, alloc: Global, of: &SyntaxValue) -> Result<Option<Value>, OutOfMemory>
-        ensures { IfOk result (λ v. v ≡ (program self.now).constant of.now) };
+    /// The constant that an expression is where these locals are in force, if it is one.
+    fn constant(
+        &self,
+        alloc: Global,
+        locals: &[Known],
+        of: &SyntaxValue,
+    ) -> Result<Option<Value>, OutOfMemory>
+        ensures { IfOk result (λ v. v ≡ (program self.now).constant locals.now of.now) };
 
     /// The line of a node, from 1 on.
     fn line(&self, place: Place) -> u32
