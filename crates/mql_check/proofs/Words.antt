@@ -106,7 +106,7 @@ program fs =
       globals = [];
       functions = fs;
       default = λ n k. None;
-      constant = constant_of;
+      constant = λ ks. constant_of;
       line = λ p. p.first;
       file = λ p. [];
     }
@@ -135,11 +135,11 @@ read n = e.Apply o.Read (e.Apply (o.Local n) [] ∷ [])
 
 -- what is told of an expression and of a statement
 unfoldable pub finds : List Signature → Value → Found
-unfolding Rules.lowest Made.tells Overloads.choose ValueRow.hidden-the_row-Value-0 denote.Hole.Carrier.hidden
+unfolding Rules.lowest Made.tells Made.uses Overloads.choose ValueRow.hidden-the_row-Value-0 denote.Hole.Carrier.hidden
 finds fs v = found (context fs) v
 
 unfoldable pub tells : Statement → Told
-unfolding Rules.lowest Made.tells Overloads.choose Statements.lowest Integers.wrapped ConstantRow.shown-the_row-Value-0 ConstantView.out-Value ValueRow.hidden-the_row-Value-0 StatementRow.hidden-the_row-Statement-0 denote.Hole.Carrier.hidden denote.Hole.Carrier.shown denote.Hole.Carrier.out
+unfolding Rules.lowest Made.tells Made.uses Overloads.choose Statements.lowest Integers.wrapped ConstantRow.shown-the_row-Value-0 ConstantView.out-Value ValueRow.hidden-the_row-Value-0 StatementRow.hidden-the_row-Statement-0 denote.Hole.Carrier.hidden denote.Hole.Carrier.shown denote.Hole.Carrier.out
 tells s = told (context []) s
 
 -- a rule that is broken at node n

@@ -9,19 +9,20 @@ use Rattle.mql_syntax.specs.declared.value.Operation.{Operation}
 use Rattle.mql_syntax.specs.declared.value.Operation.TheVariants as operation
 use Rattle.mql_types.specs.declared.types.Base.{Base}
 use Rattle.mql_types.specs.declared.types.Base.TheVariants as base
+use Rattle.mql_types.specs.declared.overloads.Signature.{Signature}
 use Rattle.mql_types.specs.Operators.{bool}
 use Rattle.mql_scope.specs.declared.context.Field.{Field}
 use Rattle.mql_typed.specs.declared.info.Info.{Info}
 use Rattle.mql_typed.specs.Typed.{is_place}
 use Rattle.mql_typed.specs.Operations.{on, literal, truth, unary_info, postfix_info, binary_info, conditional_info, assign_info, update_info, index_info, kept_field, placed_field, cast_info}
-use Rattle.mql_scope.specs.Contexts.{Text, Context}
+use Rattle.mql_scope.specs.Contexts.{Text, Program, Context}
 use Rattle.mql_scope.specs.declared.names.Callee.{Callee}
 use Rattle.mql_scope.specs.declared.names.Callee.TheVariants.{Functions, Conversion, Supplied, Other, Unknown}
-use Rattle.mql_scope.specs.Names.{name_info, callee}
-use Rattle.mql_calls.specs.Nodes.{Node, nth, told, arguments}
-use Rattle.mql_calls.specs.Calls.{chosen, call_info}
+use Rattle.mql_scope.specs.Names.{name_info}
+use Rattle.mql_calls.specs.Nodes.{Node, nth, told}
+use Rattle.mql_calls.specs.Calls.{call_info}
 use Rattle.mql_calls.specs.NativeCalls.{native_info}
-use Rattle.mql_expressions.specs.Rules.{cast_base, field_at, lowest}
+use Rattle.mql_expressions.specs.Rules.{callee_of, handed_at, chosen_for, cast_base, field_at, lowest}
 
 -- a field of a place; that of a structure that is none, which is kept in the next local first
 abbrev pub kept_part : Context → Info → ℕ × Field → Option Info
@@ -33,24 +34,27 @@ field_info c i f = if is_place i.standing then Some (placed_field f.0 f.1.of i) 
 abbrev pub member_info : Context → Text → Info → Option Info
 member_info c x i = on (field_at c.program i x) (field_info c i)
 
--- calls
-abbrev pub called_function : Context → Text → List Info → Option Info
-called_function c x is =
-    on (arguments is) (λ given. option_map (λ f. call_info c.program f is) (chosen c.program x given))
+-- calls: the function of the program that a node calls, where its arguments choose one
+abbrev pub chosen_at : Context → Node → Option Signature
+chosen_at c n = on (handed_at c n) (chosen_for c.program.functions)
 
 abbrev pub one_cast : Base → List Info → Option Info
 one_cast b (i ∷ []) = cast_info (Some b) i
 one_cast b _ = None
 
-abbrev pub called_info : Context → Text → List Info → Callee → Option Info
-called_info c x is Functions = called_function c x is
-called_info c x is (Conversion b) = one_cast b is
-called_info c x is (Supplied f) = Some (native_info c.program f is)
-called_info c x is Other = None
-called_info c x is Unknown = None
+abbrev pub called_function : Program → List Info → Option Signature → Option Info
+called_function p is f = option_map (λ g. call_info p g is) f
+
+abbrev pub called_info : Program → Option Signature → List Info → Callee → Option Info
+called_info p f is Functions = called_function p is f
+called_info p f is (Conversion b) = one_cast b is
+called_info p f is (Supplied g) = Some (native_info p g is)
+called_info p f is Other = None
+called_info p f is Unknown = None
 
 abbrev pub call_of : Context → Node → Option Info
-call_of c n = on n.called (λ x. on (told n.parts) (λ is. called_info c x is (callee c n.place x)))
+call_of c n =
+    on (callee_of c n) (λ k. on (told n.parts) (λ is. called_info c.program (chosen_at c n) is k))
 
 -- forms of one part, of two and of three
 abbrev pub of_one : Operation → Context → List TypeUse → Info → Option Info
@@ -107,3 +111,11 @@ judged None c n = made_at n.what c n
 
 unfoldable pub tells : Context → Node → Option Info
 tells c n = judged (lowest c n) c n
+
+-- the number of that function
+abbrev pub number_in : Option Signature → List ℕ
+number_in None = []
+number_in (Some f) = f.number ∷ []
+
+unfoldable pub uses : Context → Node → List ℕ
+uses c n = number_in (chosen_at c n)

@@ -14,7 +14,7 @@ use Rattle.mql_calls.specs.Nodes.{Node}
 pub use Rattle.mql_expressions.specs.declared.findings.Found.{Found}
 pub use Rattle.mql_expressions.specs.declared.findings.Founds.{Founds}
 use Rattle.mql_expressions.specs.Rules.{lowest}
-use Rattle.mql_expressions.specs.Made.{tells}
+use Rattle.mql_expressions.specs.Made.{tells, uses}
 
 -- rules broken below a node, and those broken at it
 abbrev pub below : ℕ → List Broken → List Broken
@@ -42,6 +42,10 @@ infos_in (f ∷ fs) = f.info ∷ infos_in fs
 abbrev pub broken_in : List Found → List Broken
 broken_in [] = []
 broken_in (f ∷ fs) = f.broken ++ broken_in fs
+
+abbrev pub used_in : List Found → List ℕ
+used_in [] = []
+used_in (f ∷ fs) = f.used ++ used_in fs
 
 -- the name that an expression is
 abbrev pub name_at : Operation → Option Text
@@ -86,15 +90,20 @@ abbrev pub node : Place → Operation → List TypeUse → Option Text → List 
 node place what types name parts =
     record { place = place; what = what; types = types; called = name; parts = parts }
 
-abbrev pub found_at : Context → Node → List Broken → Found
-found_at c n inner =
-    record { info = tells c n; broken = innermost n.place (inner ++ broken_at n.place (lowest c n)) }
+-- what is found at a node, from what is broken and which functions are used in its parts
+abbrev pub found_at : Context → Node → List Broken → List ℕ → Found
+found_at c n inner used =
+    record {
+      info = tells c n;
+      broken = innermost n.place (inner ++ broken_at n.place (lowest c n));
+      used = used ++ uses c n;
+    }
 
 abbrev mutual
   pub found : Context → Value → Found
   found c (Node' place what types m row) =
       let fs = founds c (is_named (called what row)) row in
-      found_at c (node place what types (called what row) (infos_in fs)) (broken_in fs)
+      found_at c (node place what types (called what row) (infos_in fs)) (broken_in fs) (used_in fs)
 
   -- those behind the name that is called; behind an expression its locals are taken
   pub founds : Context → Bool → {m : _} → Row_of-Value m → List Found
@@ -112,7 +121,7 @@ found_all c (v ∷ vs) =
     f ∷ found_all (behind_info f.info c) vs
 
 abbrev pub founds_of : List Found → Founds
-founds_of fs = record { infos = infos_in fs; broken = broken_in fs }
+founds_of fs = record { infos = infos_in fs; broken = broken_in fs; used = used_in fs }
 
 -- the parts of a node that tell something: all, but not a name that is called
 abbrev pub told_parts : Bool → List Value → List Value
