@@ -77,7 +77,7 @@ declares n v = stated.Node (at n) stating.Declaration (v ∷ []) [] []
 
 -- what is told of a program
 unfoldable judges : List Item → Option Broken
-unfolding program_of Types.word_sort Types.own_sort Types.named_sort Types.type_key ReservedWords.reserved_word ReservedWords.word_spelling Rules.lowest Made.tells Made.uses Overloads.choose Statements.lowest Integers.wrapped ConstantRow.shown-the_row-Value-0 ConstantView.out-Value TypeRow.hidden-the_row-TypeUse-0 ValueRow.hidden-the_row-Value-0 StatementRow.hidden-the_row-Statement-0 denote.Hole.Carrier.hidden denote.Hole.Carrier.shown denote.Hole.Carrier.out
+unfolding program_of Types.word_sort Types.own_sort Types.named_sort Types.type_key ReservedWords.reserved_word ReservedWords.word_spelling Rules.callee_of Rules.handed_at Rules.lowest Made.made_at Made.tells Made.uses Overloads.choose Statements.lowest Integers.wrapped ConstantRow.shown-the_row-Value-0 ConstantView.out-Value TypeRow.hidden-the_row-TypeUse-0 ValueRow.hidden-the_row-Value-0 StatementRow.hidden-the_row-Statement-0 denote.Hole.Carrier.hidden denote.Hole.Carrier.shown denote.Hole.Carrier.out
 judges items = told_broken given items
 
 -- int f() {}: 40 at the function; int f() { return 1; } is none
@@ -169,7 +169,7 @@ calling v =
 
 -- what breaks the rule on bodies
 unfoldable misses : List Item → List Broken
-unfolding program_of breaks_bodies Types.word_sort Types.own_sort Types.named_sort Types.type_key ReservedWords.reserved_word ReservedWords.word_spelling Rules.lowest Made.tells Made.uses Overloads.choose Statements.lowest Integers.wrapped ConstantRow.shown-the_row-Value-0 ConstantView.out-Value TypeRow.hidden-the_row-TypeUse-0 ValueRow.hidden-the_row-Value-0 StatementRow.hidden-the_row-Statement-0 denote.Hole.Carrier.hidden denote.Hole.Carrier.shown denote.Hole.Carrier.out Events.event_of Events.event_named Events.event_name Types.param_key
+unfolding program_of breaks_bodies Types.word_sort Types.own_sort Types.named_sort Types.type_key ReservedWords.reserved_word ReservedWords.word_spelling Rules.callee_of Rules.handed_at Rules.lowest Made.made_at Made.tells Made.uses Overloads.choose Statements.lowest Integers.wrapped ConstantRow.shown-the_row-Value-0 ConstantView.out-Value TypeRow.hidden-the_row-TypeUse-0 ValueRow.hidden-the_row-Value-0 StatementRow.hidden-the_row-Statement-0 denote.Hole.Carrier.hidden denote.Hole.Carrier.shown denote.Hole.Carrier.out Events.event_of Events.event_named Events.event_name Types.param_key
 misses items = breaks_bodies given (record { place = at 0; nodes = 1; items = items })
 
 no_body_called : misses (calling (number 5 1)) ≡ record { rule = 9; node = 1; first = 1 } ∷ []

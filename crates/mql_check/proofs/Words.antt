@@ -135,11 +135,11 @@ read n = e.Apply o.Read (e.Apply (o.Local n) [] ∷ [])
 
 -- what is told of an expression and of a statement
 unfoldable pub finds : List Signature → Value → Found
-unfolding Rules.lowest Made.tells Made.uses Overloads.choose ValueRow.hidden-the_row-Value-0 denote.Hole.Carrier.hidden
+unfolding Rules.callee_of Rules.handed_at Rules.lowest Made.made_at Made.tells Made.uses Overloads.choose ValueRow.hidden-the_row-Value-0 denote.Hole.Carrier.hidden
 finds fs v = found (context fs) v
 
 unfoldable pub tells : Statement → Told
-unfolding Rules.lowest Made.tells Made.uses Overloads.choose Statements.lowest Integers.wrapped ConstantRow.shown-the_row-Value-0 ConstantView.out-Value ValueRow.hidden-the_row-Value-0 StatementRow.hidden-the_row-Statement-0 denote.Hole.Carrier.hidden denote.Hole.Carrier.shown denote.Hole.Carrier.out
+unfolding Rules.callee_of Rules.handed_at Rules.lowest Made.made_at Made.tells Made.uses Overloads.choose Statements.lowest Integers.wrapped ConstantRow.shown-the_row-Value-0 ConstantView.out-Value ValueRow.hidden-the_row-Value-0 StatementRow.hidden-the_row-Statement-0 denote.Hole.Carrier.hidden denote.Hole.Carrier.shown denote.Hole.Carrier.out
 tells s = told (context []) s
 
 -- a rule that is broken at node n

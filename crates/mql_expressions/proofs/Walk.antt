@@ -16,7 +16,7 @@ use Rattle.mql_typed.specs.declared.info.Info.{Info}
 use Rattle.mql_scope.specs.Contexts.{Text, Context}
 use Rattle.mql_expressions.specs.declared.findings.Found.{Found}
 use Rattle.mql_expressions.specs.declared.findings.Founds.{Founds}
-use Rattle.mql_expressions.specs.Values.{infos_in, broken_in, name_of, name_of_first, called_in, first_name, called, is_named, behind_info, node, found_at, found, founds, found_all, founds_of, told_parts, all_behind}
+use Rattle.mql_expressions.specs.Values.{infos_in, broken_in, used_in, name_of, name_of_first, called_in, first_name, called, is_named, behind_info, node, found_at, found, founds, found_all, founds_of, told_parts, all_behind}
 
 -- parts as a list
 founds_of_row : (n : _) (c : Context) (row : Row_of-Value n) → founds c false row ≡ found_all c (items-the_row-Value n row)
@@ -67,7 +67,7 @@ abbrev value_row : Value → (n : Count) × Row_of-Value n
 value_row (value.Node' place what types _ row) = (_, row)
 
 abbrev found_with : Context → Place → Operation → List TypeUse → Option Text → List Found → Found
-found_with c p o types x fs = found_at c (node p o types x (infos_in fs)) (broken_in fs)
+found_with c p o types x fs = found_at c (node p o types x (infos_in fs)) (broken_in fs) (used_in fs)
 
 abbrev made_found : Context → Place → Operation → List TypeUse → List Value → Found
 made_found c p o types parts =
@@ -101,9 +101,9 @@ pub at_value : (c : Context) (v : Value) (p : Place) (o : Operation) (types : Li
     (x : Option Text) (b : Bool) (fs : Founds) (r : Found)
     → p ≡ value_place v → o ≡ value_what v → types ≡ value_types v → parts ≡ value_parts v
     → x ≡ called_in o parts → b ≡ is_named x → fs ≡ founds_of (found_all c (told_parts b parts))
-    → r ≡ found_at c (node p o types x fs.infos) fs.broken → r ≡ found c v
+    → r ≡ found_at c (node p o types x fs.infos) fs.broken fs.used → r ≡ found c v
 at_value c v p o types parts x b fs r e1 e2 e3 e4 h k l s =
-    s ∙ ap (λ (gs : Founds). found_at c (node p o types x gs.infos) gs.broken) l
+    s ∙ ap (λ (gs : Founds). found_at c (node p o types x gs.infos) gs.broken gs.used) l
     ∙ ap (λ (d : Bool). found_with c p o types x (found_all c (told_parts d parts))) k
     ∙ ap (λ (y : Option Text). found_with c p o types y (found_all c (told_parts (is_named y) parts))) h
     ∙ ap (λ q. made_found c q o types parts) e1
@@ -131,6 +131,10 @@ broken_more : (fs : List Found) (f : Found) → broken_in (fs ++ f ∷ []) ≡ b
 broken_more [] f = append-nil f.broken
 broken_more (g ∷ gs) f = ap (λ bs. g.broken ++ bs) (broken_more gs f) ∙ sym (append_assoc g.broken (broken_in gs) f.broken)
 
+used_more : (fs : List Found) (f : Found) → used_in (fs ++ f ∷ []) ≡ used_in fs ++ f.used
+used_more [] f = append-nil f.used
+used_more (g ∷ gs) f = ap (λ ns. g.used ++ ns) (used_more gs f) ∙ sym (append_assoc g.used (used_in gs) f.used)
+
 pub all_infos_more : (c : Context) (vs : List Value) (v : Value)
     → infos_in (found_all c (vs ++ v ∷ [])) ≡ infos_in (found_all c vs) ++ (found (all_behind c vs) v).info ∷ []
 all_infos_more c vs v = ap infos_in (found_more c vs v) ∙ infos_more (found_all c vs) (found (all_behind c vs) v)
@@ -138,3 +142,7 @@ all_infos_more c vs v = ap infos_in (found_more c vs v) ∙ infos_more (found_al
 pub all_broken_more : (c : Context) (vs : List Value) (v : Value)
     → broken_in (found_all c (vs ++ v ∷ [])) ≡ broken_in (found_all c vs) ++ (found (all_behind c vs) v).broken
 all_broken_more c vs v = ap broken_in (found_more c vs v) ∙ broken_more (found_all c vs) (found (all_behind c vs) v)
+
+pub all_used_more : (c : Context) (vs : List Value) (v : Value)
+    → used_in (found_all c (vs ++ v ∷ [])) ≡ used_in (found_all c vs) ++ (found (all_behind c vs) v).used
+all_used_more c vs v = ap used_in (found_more c vs v) ∙ used_more (found_all c vs) (found (all_behind c vs) v)

@@ -83,7 +83,7 @@ abbrev pub three : Node → Option Info
 three n = on (nth 0 n.parts) (λ i. on (nth 1 n.parts) (λ j. on (nth 2 n.parts) (conditional_info i j)))
 
 -- what a node tells that breaks no rule
-abbrev pub made_at : Operation → Context → Node → Option Info
+unfoldable pub made_at : Operation → Context → Node → Option Info
 made_at (operation.Name x) c n = name_info c n.place x
 made_at (operation.Int x k) c n = literal (base.Simple (simple.Integer k)) (value.Num k (pos x))
 made_at (operation.Double x) c n = literal (base.Simple simple.Double) (value.Dbl x)

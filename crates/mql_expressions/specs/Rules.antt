@@ -76,7 +76,7 @@ on_number (operation.Postfix s) = true
 on_number _ = false
 
 -- what a node calls
-abbrev pub callee_of : Context → Node → Option Callee
+unfoldable pub callee_of : Context → Node → Option Callee
 callee_of c n = option_map (callee c n.place) n.called
 
 abbrev pub is_unknown : Callee → Bool
@@ -99,7 +99,7 @@ abbrev pub handed_to : List Signature → Option Text → Option (List Argument)
 handed_to fs (Some x) (Some given) = Some (handed x fs given)
 handed_to fs _ _ = None
 
-abbrev pub handed_at : Context → Node → Option Handed
+unfoldable pub handed_at : Context → Node → Option Handed
 handed_at c n =
     if passes is_functions (callee_of c n) then handed_to c.program.functions n.called (arguments_of n) else None
 

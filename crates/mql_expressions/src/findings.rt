@@ -1,12 +1,15 @@
 //! What is found in an expression.
+ghost use Rattle.std.specs.Option.{option_copied};
 ghost use Rattle.std.specs.Prelude.{◌≡◌, ◌++◌, IfOk};
 ghost use Rattle.mql_expressions.specs.Values.{below, innermost, broken_at, kept_by};
+ghost use Rattle.mql_expressions.specs.Made.{number_in};
 
 use fx8::{ItemList, OutOfMemory};
 use mql_meaning::VarType;
 use mql_names::Broken;
 use mql_syntax::Place;
 use mql_typed::Info;
+use mql_types::Signature;
 use std::alloc::Global;
 
 /// What an expression tells, and what is broken in it.
@@ -16,6 +19,8 @@ pub struct Found {
     pub info: Option<Info>,
     /// The broken rules that may be told of: those of nodes that break one where none below them does.
     pub broken: ItemList<Broken>,
+    /// The numbers of the functions of the program that calls in it choose.
+    pub used: ItemList<u32>,
 }
 
 /// What expressions tell, one after another, and what is broken in them.
@@ -23,6 +28,7 @@ pub struct Found {
 pub struct Founds {
     pub infos: ItemList<Option<Info>>,
     pub broken: ItemList<Broken>,
+    pub used: ItemList<u32>,
 }
 
 fn below(alloc: Global, at: u32, all: &[Broken]) -> Result<ItemList<Broken>, OutOfMemory>
@@ -82,5 +88,21 @@ pub(crate) fn kept_by(info: &Option<Info>) -> &[VarType]
     match info {
         None => &[],
         Some(i) => i.kept.as_slice(),
+    }
+}
+
+/// The functions that are used, and one more behind them, if there is one.
+pub(crate) fn with_used(
+    mut used: ItemList<u32>,
+    f: Option<&Signature>,
+) -> Result<ItemList<u32>, OutOfMemory>
+    ensures { IfOk result (λ r. r ≡ used ++ number_in (option_copied f.entry)) }
+{
+    match f {
+        None => Ok(used),
+        Some(g) => {
+            used.push(g.number)?;
+            Ok(used)
+        }
     }
 }

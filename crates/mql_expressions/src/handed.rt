@@ -1,11 +1,11 @@
 //! What a node calls, and the functions that take what it hands over.
 ghost use Rattle.std.specs.Prelude.{◌≡◌, option_map, Some, IfOk};
-ghost use Rattle.mql_types.specs.declared.overloads.Signature.{Signature};
+ghost use Rattle.std.specs.Option.{option_copied};
 ghost use Rattle.mql_scope.specs.Places.{context_at};
 ghost use Rattle.mql_calls.specs.Nodes.{passes, told, arguments_of};
 ghost use Rattle.mql_calls.specs.NativeCalls.{wrong_arguments, lends_native, flags_no_line};
 ghost use Rattle.mql_typed.specs.Operations.{on};
-ghost use Rattle.mql_expressions.specs.Rules.{callee_of, is_unknown, is_other, is_functions, handed, handed_to, handed_at, breaks_at, none_takes, takes_equally, converts_to, ask_supplied};
+ghost use Rattle.mql_expressions.specs.Rules.{callee_of, is_unknown, is_other, is_functions, handed, handed_to, handed_at, chosen_for, breaks_at, none_takes, takes_equally, converts_to, ask_supplied};
 ghost use Rattle.mql_expressions.specs.Views.{node_of};
 
 use crate::node::NodeView;
@@ -14,7 +14,7 @@ use mql_calls::{
     ArgumentRule, arguments_of, chosen_in, flags_no_line, is_equal, is_nothing, lends_native,
     some_pair, wrong_arguments,
 };
-use mql_scope::{Callee, Here, ProgramFacts, callee};
+use mql_scope::{Callee, Here, ProgramFacts, callee_of};
 use mql_typed::Info;
 use mql_types::{Argument, Base, Choice, Signature, choose};
 use std::alloc::Global;
@@ -29,7 +29,8 @@ pub struct Handed {
 }
 
 /// What a node calls; none where it calls no name.
-pub(crate) fn callee_of<P: ProgramFacts>(
+#[tactic(auto, unfolding(crate::specs::Rules::callee_of))]
+pub(crate) fn callee_at<P: ProgramFacts>(
     alloc: Global,
     here: &Here<'_, P>,
     n: &NodeView,
@@ -39,7 +40,7 @@ pub(crate) fn callee_of<P: ProgramFacts>(
     match n.called {
         None => Ok(None),
         Some(x) => {
-            let k = callee(alloc, here, n.place, x)?;
+            let k = callee_of(alloc, here, n.place, x)?;
             Ok(Some(k))
         }
     }
@@ -85,7 +86,7 @@ pub(crate) fn called_base(k: Option<Callee>) -> Option<Base>
     }
 }
 
-fn handed(name: &[u16], functions: &[Signature], given: ItemList<Argument>) -> Handed
+fn handed_with(name: &[u16], functions: &[Signature], given: ItemList<Argument>) -> Handed
     ensures { result ≡ handed name.now functions.now given }
 {
     let choice = choose(name, given.as_slice(), functions);
@@ -106,12 +107,13 @@ fn handed_to(
         None => None,
         Some(x) => match given {
             None => None,
-            Some(list) => Some(handed(x, functions, list)),
+            Some(list) => Some(handed_with(x, functions, list)),
         },
     }
 }
 
 /// The call of functions that a node is, whose callee is given.
+#[tactic(auto, unfolding(crate::specs::Rules::handed_at))]
 pub(crate) fn handed_at<P: ProgramFacts>(
     alloc: Global,
     here: &Here<'_, P>,
@@ -145,6 +147,16 @@ pub(crate) fn takes_equally(h: &Option<Handed>) -> bool
     match h {
         None => false,
         Some(call) => is_equal(call.choice),
+    }
+}
+
+/// The function that is chosen for a call, if one is.
+pub(crate) fn chosen_for<'a>(functions: &'a [Signature], h: &Option<Handed>) -> Option<&'a Signature>
+    ensures { option_copied result ≡ on h.now (chosen_for functions.now) }
+{
+    match h {
+        None => None,
+        Some(call) => chosen_in(functions, call.choice),
     }
 }
 

@@ -13,4 +13,4 @@ mod tests;
 mod values;
 
 pub use findings::{Found, Founds};
-pub use values::{found, found_all};
+pub use values::{found_all, found_in};

@@ -9,7 +9,7 @@ use crate::calls::{
     array_used, constant_changed, fit_equally, no_conversion, no_overload, not_callable,
     reference_differs, reference_no_place, series_flag, wrong_native,
 };
-use crate::handed::{Handed, callee_of, handed_at};
+use crate::handed::Handed;
 use crate::members::{not_accessible, unknown_member, unknown_name};
 use crate::node::NodeView;
 use crate::operands::{
@@ -122,20 +122,24 @@ fn lowest_of_others<P: ProgramFacts>(
     broken(is_new(n.what), 27, from_pointers)
 }
 
-/// The lowest rule of expressions that a node breaks, if it breaks one.
+/// The lowest rule of expressions that a node breaks, if it breaks one. What the node calls, and the call of
+/// functions that it is, are given.
+#[tactic(auto, unfolding(crate::specs::Rules::lowest))]
 pub(crate) fn lowest<P: ProgramFacts>(
     alloc: Global,
     here: &Here<'_, P>,
     n: &NodeView,
+    k: Option<Callee>,
+    h: &Option<Handed>,
 ) -> Result<Option<u8>, OutOfMemory>
+    requires callee { k ≡ callee_of (context_at P.program here.now) (node_of n.now) }
+    requires handed { h.now ≡ handed_at (context_at P.program here.now) (node_of n.now) }
     ensures { IfOk result (λ r. r ≡ lowest (context_at P.program here.now) (node_of n.now)) }
 {
-    let k = callee_of(alloc, here, n)?;
-    let h = handed_at(alloc, here, n, k)?;
     let names = lowest_of_names(alloc, here, n, k)?;
-    let calls = lowest_of_calls(here, n, k, &h);
+    let calls = lowest_of_calls(here, n, k, h);
     let operands = lowest_of_operands(here, n, k)?;
-    let values = lowest_of_values(here, n, k, &h);
+    let values = lowest_of_values(here, n, k, h);
     let others = lowest_of_others(here, n, k);
     let from_values = either(values, others);
     let from_operands = either(operands, from_values);

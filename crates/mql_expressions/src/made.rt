@@ -1,27 +1,30 @@
 //! What an expression that breaks no rule tells.
-ghost use Rattle.std.specs.Prelude.{◌≡◌, ◌+◌, pos, option_map, Some, IfOk};
+ghost use Rattle.std.specs.Prelude.{◌≡◌, ◌+◌, pos, Some, IfOk};
+ghost use Rattle.std.specs.Option.{option_copied};
 ghost use Rattle.fx8.specs.declared.int_kind.IntKind.TheVariants as kind;
 ghost use Rattle.natives.specs.declared.types.SimpleType.TheVariants as simple;
 ghost use Rattle.mql_mean.specs.declared.value.Value.TheVariants as value;
 ghost use Rattle.mql_types.specs.declared.types.Base.TheVariants as base;
 ghost use Rattle.mql_types.specs.Operators.{bool};
-ghost use Rattle.mql_scope.specs.Names.{name_info, callee};
 ghost use Rattle.mql_scope.specs.Places.{context_at};
 ghost use Rattle.mql_typed.specs.Operations.{on, truth, literal, conditional_info};
 ghost use Rattle.mql_calls.specs.Nodes.{nth, told};
-ghost use Rattle.mql_expressions.specs.Made.{kept_part, field_info, member_info, called_function, one_cast, called_info, call_of, of_one, of_two, one, two, three, made_at};
+ghost use Rattle.mql_expressions.specs.Made.{kept_part, field_info, member_info, chosen_at, called_function, one_cast, called_info, of_one, of_two, made_at, tells};
+ghost use Rattle.mql_expressions.specs.Rules.{callee_of, lowest};
+ghost use Rattle.mql_expressions.specs.Views.{node_at};
 
 use crate::members::{cast_base, field_at};
-use fx8::{IntKind, ItemList, OutOfMemory, Stack, Text};
-use mql_calls::{arguments, call_info, chosen, native_info, told};
+use crate::node::{Call, Site};
+use fx8::{Fix8, IntKind, ItemList, OutOfMemory, Stack, Text};
+use mql_calls::{call_info, native_info, told};
 use mql_mean::Value;
-use mql_scope::{Callee, Field, Here, ProgramFacts, callee, name_info};
-use mql_syntax::{Operation, Place, TypeUse};
+use mql_scope::{Callee, Field, Here, ProgramFacts, name_info};
+use mql_syntax::{Operation, TypeUse};
 use mql_typed::{
     Info, assign_info, binary_info, cast_info, conditional_info, index_info, kept_field, literal,
     placed_field, postfix_info, unary_info, update_info,
 };
-use mql_types::{Base, DataType};
+use mql_types::{Base, Signature};
 use natives::SimpleType;
 use std::alloc::Global;
 
@@ -99,21 +102,18 @@ fn member_info<P: ProgramFacts>(
 
 fn called_function<P: ProgramFacts>(
     alloc: Global,
-    here: &Here<'_, P>,
-    name: &[u16],
+    program: &P,
     infos: ItemList<Info>,
+    f: Option<&Signature>,
 ) -> Result<Option<Info>, OutOfMemory>
-    ensures { IfOk result (λ r. r ≡ called_function (context_at P.program here.now) name.now infos) }
+    ensures { IfOk result (λ r. r ≡ called_function (P.program program.now) infos (option_copied f.entry)) }
 {
-    match arguments(alloc, infos.as_slice())? {
+    match f {
         None => Ok(None),
-        Some(given) => match chosen(here.program, name, given.as_slice()) {
-            None => Ok(None),
-            Some(f) => {
-                let r = call_info(alloc, here.program, f, infos)?;
-                Ok(Some(r))
-            }
-        },
+        Some(g) => {
+            let r = call_info(alloc, program, g, infos)?;
+            Ok(Some(r))
+        }
     }
 }
 
@@ -132,43 +132,38 @@ fn one_cast(alloc: Global, b: Base, infos: ItemList<Info>) -> Result<Option<Info
 
 fn called_info<P: ProgramFacts>(
     alloc: Global,
-    here: &Here<'_, P>,
-    name: &[u16],
+    program: &P,
+    f: Option<&Signature>,
     infos: ItemList<Info>,
     k: Callee,
 ) -> Result<Option<Info>, OutOfMemory>
-    ensures { IfOk result (λ r. r ≡ called_info (context_at P.program here.now) name.now infos k) }
+    ensures { IfOk result (λ r. r ≡ called_info (P.program program.now) (option_copied f.entry) infos k) }
 {
     match k {
-        Callee::Functions => called_function(alloc, here, name, infos),
+        Callee::Functions => called_function(alloc, program, infos, f),
         Callee::Conversion(b) => one_cast(alloc, b, infos),
-        Callee::Supplied(f) => {
-            let r = native_info(alloc, here.program, f, infos)?;
+        Callee::Supplied(native) => {
+            let r = native_info(alloc, program, native, infos)?;
             Ok(Some(r))
         }
         Callee::Other | Callee::Unknown => Ok(None),
     }
 }
 
-fn call_of<P: ProgramFacts>(
+fn called_with<P: ProgramFacts>(
     alloc: Global,
-    here: &Here<'_, P>,
-    place: Place,
-    called: Option<&[u16]>,
+    program: &P,
+    call: &Call,
     parts: ItemList<Option<Info>>,
 ) -> Result<Option<Info>, OutOfMemory>
-    ensures { IfOk result (λ r. r ≡ 
-        on (option_map (λ x. x.now) called.entry) (λ x. on (told parts) (λ is.
-        called_info (context_at P.program here.now) x is (callee (context_at P.program here.now) place x)))) }
+    ensures { IfOk result (λ r. r ≡ on call.now.callee (λ k. on (told parts) (λ is.
+        called_info (P.program program.now) (option_copied call.now.chosen) is k))) }
 {
-    match called {
+    match call.callee {
         None => Ok(None),
-        Some(name) => match told(alloc, parts)? {
+        Some(k) => match told(alloc, parts)? {
             None => Ok(None),
-            Some(infos) => {
-                let k = callee(alloc, here, place, name)?;
-                called_info(alloc, here, name, infos, k)
-            }
+            Some(infos) => called_info(alloc, program, call.chosen, infos, k),
         },
     }
 }
@@ -274,6 +269,18 @@ fn integer_info(alloc: Global, value: u64, kind: IntKind) -> Info
     literal(alloc, Base::Simple(SimpleType::Integer(kind)), Value::Num(kind, i128::from(value)))
 }
 
+fn double_info(alloc: Global, x: Fix8) -> Info
+    ensures { Some result ≡ literal (base.Simple simple.Double) (value.Dbl x) }
+{
+    literal(alloc, Base::Simple(SimpleType::Double), Value::Dbl(x))
+}
+
+fn null_info(alloc: Global) -> Info
+    ensures { Some result ≡ literal base.Null (value.Ptr 0) }
+{
+    literal(alloc, Base::Null, Value::Ptr(0))
+}
+
 fn truth(b: bool) -> i128
     ensures { result ≡ truth b }
 {
@@ -288,41 +295,59 @@ fn truth_info(alloc: Global, b: bool) -> Info
     literal(alloc, Base::Simple(SimpleType::Integer(IntKind::Bool)), value)
 }
 
-/// What a node tells that breaks no rule.
-pub(crate) fn made_at<P: ProgramFacts>(
+/// What a node tells that breaks no rule. What it calls is given.
+#[tactic(auto, unfolding(crate::specs::Made::made_at))]
+fn made_at<P: ProgramFacts>(
     alloc: Global,
     here: &Here<'_, P>,
-    place: Place,
-    what: &Operation,
-    types: &[TypeUse],
-    called: Option<&[u16]>,
+    s: &Site,
+    call: &Call,
     parts: ItemList<Option<Info>>,
 ) -> Result<Option<Info>, OutOfMemory>
-    ensures { IfOk result (λ r. r ≡ made_at what.now (context_at P.program here.now)
-        (record { place = place; what = what.now; types = types.now; called = option_map (λ x. x.now) called.entry; parts = parts })) }
+    requires callee { call.now.callee ≡ callee_of (context_at P.program here.now) (node_at s.now parts) }
+    requires chosen { option_copied call.now.chosen ≡ chosen_at (context_at P.program here.now) (node_at s.now parts) }
+    ensures { IfOk result (λ r. r ≡ made_at s.now.what.now (context_at P.program here.now) (node_at s.now parts)) }
 {
-    match what {
-        Operation::Name(x) => name_info(alloc, here, place, x.as_slice()),
+    match s.what {
+        Operation::Name(x) => name_info(alloc, here, s.place, x.as_slice()),
         Operation::Int { value, kind } => Ok(Some(integer_info(alloc, *value, *kind))),
-        Operation::Double(x) => {
-            let b = Base::Simple(SimpleType::Double);
-            Ok(Some(literal(alloc, b, Value::Dbl(*x))))
-        }
+        Operation::Double(x) => Ok(Some(double_info(alloc, *x))),
         Operation::Text(t) => text_info(alloc, t.as_slice()),
         Operation::Bool(b) => Ok(Some(truth_info(alloc, *b))),
-        Operation::Null => Ok(Some(literal(alloc, Base::Null, Value::Ptr(0)))),
-        Operation::Call => call_of(alloc, here, place, called, parts),
+        Operation::Null => Ok(Some(null_info(alloc))),
+        Operation::Call => called_with(alloc, here.program, call, parts),
         Operation::Conditional => three(alloc, parts),
         Operation::Binary(_)
         | Operation::Assign
         | Operation::AssignWith(_)
-        | Operation::Index => two(alloc, what, parts),
+        | Operation::Index => two(alloc, s.what, parts),
         Operation::Parentheses
         | Operation::Unary(_)
         | Operation::Postfix(_)
         | Operation::Member(_)
         | Operation::Conversion
-        | Operation::Cast => one(alloc, here, what, types, parts),
+        | Operation::Cast => one(alloc, here, s.what, s.types, parts),
         _ => Ok(None),
+    }
+}
+
+/// What a node tells, whose lowest broken rule is given, and what it calls.
+#[tactic(auto, unfolding(crate::specs::Made::tells))]
+pub(crate) fn tells<P: ProgramFacts>(
+    alloc: Global,
+    here: &Here<'_, P>,
+    s: &Site,
+    call: &Call,
+    parts: ItemList<Option<Info>>,
+    rule: Option<u8>,
+) -> Result<Option<Info>, OutOfMemory>
+    requires callee { call.now.callee ≡ callee_of (context_at P.program here.now) (node_at s.now parts) }
+    requires chosen { option_copied call.now.chosen ≡ chosen_at (context_at P.program here.now) (node_at s.now parts) }
+    requires rule { rule ≡ lowest (context_at P.program here.now) (node_at s.now parts) }
+    ensures { IfOk result (λ r. r ≡ tells (context_at P.program here.now) (node_at s.now parts)) }
+{
+    match rule {
+        Some(_) => Ok(None),
+        None => made_at(alloc, here, s, call, parts),
     }
 }

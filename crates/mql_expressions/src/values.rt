@@ -1,17 +1,20 @@
 //! The walk over expressions.
-ghost use Rattle.std.specs.Prelude.{◌≡◌, option_map, IfOk};
+ghost use Rattle.std.specs.Prelude.{◌≡◌, true, option_map, IfOk};
 ghost use Rattle.mql_scope.specs.Places.{context_at};
-ghost use Rattle.mql_expressions.specs.Views.{node_of};
-ghost use Rattle.mql_expressions.specs.Made.{judged};
-ghost use Rattle.mql_expressions.specs.Values.{name_at, name_of, name_of_first, called_in, told_parts, behind_info, node, found_at, found, found_all, founds_of};
+ghost use Rattle.std.specs.Option.{option_copied};
+ghost use Rattle.mql_expressions.specs.Views.{node_of, node_at};
+ghost use Rattle.mql_expressions.specs.Rules.{callee_of, lowest};
+ghost use Rattle.mql_expressions.specs.Made.{chosen_at, number_in, uses};
+ghost use Rattle.mql_expressions.specs.Values.{name_at, name_of, name_of_first, called_in, told_parts, behind_info, found_at, found, found_all, founds_of};
 
-use crate::findings::{Found, Founds, innermost, kept_by, with_rule};
+use crate::findings::{Found, Founds, innermost, kept_by, with_rule, with_used};
+use crate::handed::{callee_at, chosen_for, handed_at};
 use crate::lowest::lowest;
-use crate::made::made_at;
-use crate::node::NodeView;
+use crate::made::tells;
+use crate::node::{Call, NodeView, Site};
 use fx8::{ItemList, OutOfMemory};
 use mql_scope::{Here, ProgramFacts};
-use mql_syntax::{Operation, Place, TypeUse, Value};
+use mql_syntax::{Operation, Value};
 use mql_typed::Info;
 use std::alloc::Global;
 
@@ -60,58 +63,61 @@ fn behind<'a, P: ProgramFacts>(
     here.behind_values(kept_by(info))
 }
 
-fn judged<P: ProgramFacts>(
+/// The lowest broken rule of a node, and what it calls.
+#[tactic(auto, unfolding(crate::specs::Made::uses))]
+fn asked<'a, P: ProgramFacts>(
     alloc: Global,
-    here: &Here<'_, P>,
-    place: Place,
-    what: &Operation,
-    types: &[TypeUse],
-    called: Option<&[u16]>,
-    parts: ItemList<Option<Info>>,
-    rule: Option<u8>,
-) -> Result<Option<Info>, OutOfMemory>
-    ensures { IfOk result (λ r. r ≡ judged rule (context_at P.program here.now)
-        (node place what.now types.now (option_map (λ x. x.now) called.entry) parts)) }
+    here: &Here<'a, P>,
+    n: &NodeView,
+) -> Result<(Option<u8>, Call<'a>), OutOfMemory>
+    ensures rule { IfOk result (λ r. r.0 ≡ lowest (context_at P.program here.now) (node_of n.now)) }
+    ensures callee { IfOk result (λ r. r.1.callee ≡ callee_of (context_at P.program here.now) (node_of n.now)) }
+    ensures chosen { IfOk result (λ r. option_copied r.1.chosen ≡ chosen_at (context_at P.program here.now) (node_of n.now)) }
+    ensures used { IfOk result (λ r. number_in (option_copied r.1.chosen) ≡ uses (context_at P.program here.now) (node_of n.now)) }
 {
-    match rule {
-        Some(_) => Ok(None),
-        None => made_at(alloc, here, place, what, types, called, parts),
-    }
+    let callee = callee_at(alloc, here, n)?;
+    let h = handed_at(alloc, here, n, callee)?;
+    let rule = lowest(alloc, here, n, callee, &h)?;
+    let chosen = chosen_for(here.program.functions(), &h);
+    Ok((rule, Call { callee, chosen }))
 }
 
 fn found_at<P: ProgramFacts>(
     alloc: Global,
     here: &Here<'_, P>,
-    place: Place,
-    what: &Operation,
-    types: &[TypeUse],
-    called: Option<&[u16]>,
+    s: &Site,
     inner: Founds,
 ) -> Result<Found, OutOfMemory>
-    ensures { IfOk result (λ f. f ≡ found_at (context_at P.program here.now)
-        (node place what.now types.now (option_map (λ x. x.now) called.entry) inner.infos) inner.broken) }
+    ensures { IfOk result (λ f. f ≡ found_at (context_at P.program here.now) (node_at s.now inner.infos)
+        inner.broken inner.used) }
 {
-    let Founds { infos, broken } = inner;
-    let rule = lowest(
-        alloc,
-        here,
-        &NodeView {
-            place,
-            what,
-            types,
-            called,
-            parts: infos.as_slice(),
-        },
-    )?;
-    let all = with_rule(broken, place, rule)?;
-    let told = innermost(alloc, place, all)?;
-    let info = judged(alloc, here, place, what, types, called, infos, rule)?;
-    Ok(Found { info, broken: told })
+    let Founds {
+        infos,
+        broken,
+        used,
+    } = inner;
+    let n = NodeView {
+        place: s.place,
+        what: s.what,
+        types: s.types,
+        called: s.called,
+        parts: infos.as_slice(),
+    };
+    let (rule, call) = asked(alloc, here, &n)?;
+    let all = with_rule(broken, s.place, rule)?;
+    let told = innermost(alloc, s.place, all)?;
+    let calls = with_used(used, call.chosen)?;
+    let info = tells(alloc, here, s, &call, infos, rule)?;
+    Ok(Found {
+        info,
+        broken: told,
+        used: calls,
+    })
 }
 
 /// What an expression tells, and what is broken in it.
 #[cycle(found)]
-pub fn found<P: ProgramFacts>(
+pub fn found_in<P: ProgramFacts>(
     alloc: Global,
     here: &Here<'_, P>,
     v: &Value,
@@ -126,12 +132,18 @@ pub fn found<P: ProgramFacts>(
             parts,
         } => {
             let called = called_in(what, parts.as_slice());
+            let s = Site {
+                place: *place,
+                what,
+                types: types.as_slice(),
+                called,
+            };
             if called.is_some() {
                 let inner = found_behind(alloc, here, parts.as_slice())?;
-                return found_at(alloc, here, *place, what, types.as_slice(), called, inner);
+                return found_at(alloc, here, &s, inner);
             }
             let inner = found_all(alloc, here, parts.as_slice())?;
-            found_at(alloc, here, *place, what, types.as_slice(), called, inner)
+            found_at(alloc, here, &s, inner)
         }
     }
 }
@@ -164,15 +176,22 @@ pub fn found_all<P: ProgramFacts>(
     let mut at = *here;
     let mut infos = ItemList::new(alloc);
     let mut broken = ItemList::new(alloc);
+    let mut used = ItemList::new(alloc);
     for v in values {
-        let f = found(alloc, &at, v)?;
+        let f = found_in(alloc, &at, v)?;
         at = behind(&at, &f.info)?;
         let Found {
             info,
-            broken: more,
+            broken: below,
+            used: calls,
         } = f;
         infos.push(info)?;
-        broken.append(more)?;
+        broken.append(below)?;
+        used.append(calls)?;
     }
-    Ok(Founds { infos, broken })
+    Ok(Founds {
+        infos,
+        broken,
+        used,
+    })
 }
