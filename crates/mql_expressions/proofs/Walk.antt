@@ -1,5 +1,5 @@
 -- The walk over expressions, in parts.
-use Rattle.std.proofs.Common.{◌≡◌, Bool, true, false, List, [], ◌∷◌, ◌++◌, Option, Some, None, refl, sym, ap, ◌∙◌}
+use Rattle.std.proofs.Common.{◌≡◌, ℕ, Bool, true, false, List, [], ◌∷◌, ◌++◌, Option, Some, None, refl, sym, ap, ◌∙◌}
 use Rattle.std.proofs.lemmas.List.{append-nil, append_assoc}
 use Rattle.mql_syntax.specs.declared.kind.Place.{Place}
 use Rattle.mql_syntax.specs.declared.value.TypeUse.{TypeUse}
@@ -146,3 +146,34 @@ all_broken_more c vs v = ap broken_in (found_more c vs v) ∙ broken_more (found
 pub all_used_more : (c : Context) (vs : List Value) (v : Value)
     → used_in (found_all c (vs ++ v ∷ [])) ≡ used_in (found_all c vs) ++ (found (all_behind c vs) v).used
 all_used_more c vs v = ap used_in (found_more c vs v) ∙ used_more (found_all c vs) (found (all_behind c vs) v)
+
+-- the turn of the loop over expressions
+pub context_step : (c : Context) (vs : List Value) (v : Value) (at next : Context) (f : Found)
+    → at ≡ all_behind c vs → f ≡ found at v → next ≡ behind_info f.info at → next ≡ all_behind c (vs ++ v ∷ [])
+context_step c vs v at next f e h k =
+    k ∙ ap (λ (g : Found). behind_info g.info at) h
+    ∙ ap (λ (a : Context). behind_info (found a v).info a) e ∙ sym (behind_more c vs v)
+
+pub infos_step : (c : Context) (vs : List Value) (v : Value) (at : Context) (f : Found) (is js : List (Option Info))
+    → at ≡ all_behind c vs → f ≡ found at v → is ≡ infos_in (found_all c vs) → js ≡ is ++ f.info ∷ []
+    → js ≡ infos_in (found_all c (vs ++ v ∷ []))
+infos_step c vs v at f is js e h k l =
+    l ∙ ap (λ ks. ks ++ f.info ∷ []) k
+    ∙ ap (λ (g : Found). infos_in (found_all c vs) ++ g.info ∷ []) (h ∙ ap (λ a. found a v) e)
+    ∙ sym (all_infos_more c vs v)
+
+pub broken_step : (c : Context) (vs : List Value) (v : Value) (at : Context) (f : Found) (is js : List Broken)
+    → at ≡ all_behind c vs → f ≡ found at v → is ≡ broken_in (found_all c vs) → js ≡ is ++ f.broken
+    → js ≡ broken_in (found_all c (vs ++ v ∷ []))
+broken_step c vs v at f is js e h k l =
+    l ∙ ap (λ ks. ks ++ f.broken) k
+    ∙ ap (λ (g : Found). broken_in (found_all c vs) ++ g.broken) (h ∙ ap (λ a. found a v) e)
+    ∙ sym (all_broken_more c vs v)
+
+pub used_step : (c : Context) (vs : List Value) (v : Value) (at : Context) (f : Found) (is js : List ℕ)
+    → at ≡ all_behind c vs → f ≡ found at v → is ≡ used_in (found_all c vs) → js ≡ is ++ f.used
+    → js ≡ used_in (found_all c (vs ++ v ∷ []))
+used_step c vs v at f is js e h k l =
+    l ∙ ap (λ ks. ks ++ f.used) k
+    ∙ ap (λ (g : Found). used_in (found_all c vs) ++ g.used) (h ∙ ap (λ a. found a v) e)
+    ∙ sym (all_used_more c vs v)

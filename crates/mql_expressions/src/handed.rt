@@ -151,7 +151,10 @@ pub(crate) fn takes_equally(h: &Option<Handed>) -> bool
 }
 
 /// The function that is chosen for a call, if one is.
-pub(crate) fn chosen_for<'a>(functions: &'a [Signature], h: &Option<Handed>) -> Option<&'a Signature>
+pub(crate) fn chosen_for<'a>(
+    functions: &'a [Signature],
+    h: &Option<Handed>,
+) -> Option<&'a Signature>
     ensures { option_copied result ≡ on h.now (chosen_for functions.now) }
 {
     match h {
@@ -170,11 +173,7 @@ fn breaks_at(rule: ArgumentRule, functions: &[Signature], h: &Handed) -> bool
 }
 
 /// Whether an argument breaks a rule at the parameter of the chosen function.
-pub(crate) fn some_breaks(
-    rule: ArgumentRule,
-    functions: &[Signature],
-    h: &Option<Handed>,
-) -> bool
+pub(crate) fn some_breaks(rule: ArgumentRule, functions: &[Signature], h: &Option<Handed>) -> bool
     ensures { result ≡ passes (breaks_at rule functions.now) h.now }
 {
     match h {

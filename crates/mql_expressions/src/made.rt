@@ -190,12 +190,7 @@ fn of_one<P: ProgramFacts>(
     }
 }
 
-fn of_two(
-    alloc: Global,
-    what: &Operation,
-    i: Info,
-    j: Info,
-) -> Result<Option<Info>, OutOfMemory>
+fn of_two(alloc: Global, what: &Operation, i: Info, j: Info) -> Result<Option<Info>, OutOfMemory>
     ensures { IfOk result (λ r. r ≡ of_two what.now i j) }
 {
     match what {
@@ -214,7 +209,8 @@ fn one<P: ProgramFacts>(
     types: &[TypeUse],
     parts: ItemList<Option<Info>>,
 ) -> Result<Option<Info>, OutOfMemory>
-    ensures { IfOk result (λ r. r ≡ on (nth 0 parts) (of_one what.now (context_at P.program here.now) types.now)) }
+    ensures { IfOk result (λ r. r ≡
+        on (nth 0 parts) (of_one what.now (context_at P.program here.now) types.now)) }
 {
     let mut left = Stack::of_list(parts);
     match left.pop() {
@@ -241,7 +237,8 @@ fn two(
 }
 
 fn three(alloc: Global, parts: ItemList<Option<Info>>) -> Result<Option<Info>, OutOfMemory>
-    ensures { IfOk result (λ r. r ≡ on (nth 0 parts) (λ i. on (nth 1 parts) (λ j. on (nth 2 parts) (conditional_info i j)))) }
+    ensures { IfOk result (λ r. r ≡
+        on (nth 0 parts) (λ i. on (nth 1 parts) (λ j. on (nth 2 parts) (conditional_info i j)))) }
 {
     let mut left = Stack::of_list(parts);
     match left.pop() {
@@ -263,10 +260,11 @@ fn text_info(alloc: Global, t: &[u16]) -> Result<Option<Info>, OutOfMemory>
     Ok(Some(literal(alloc, Base::Simple(SimpleType::String), Value::Str(copy))))
 }
 
-fn integer_info(alloc: Global, value: u64, kind: IntKind) -> Info
-    ensures { Some result ≡ literal (base.Simple (simple.Integer kind)) (value.Num kind (pos value)) }
+fn integer_info(alloc: Global, number: u64, of: IntKind) -> Info
+    ensures { Some result ≡ literal (base.Simple (simple.Integer of)) (value.Num of (pos number)) }
 {
-    literal(alloc, Base::Simple(SimpleType::Integer(kind)), Value::Num(kind, i128::from(value)))
+    let b = Base::Simple(SimpleType::Integer(of));
+    literal(alloc, b, Value::Num(of, i128::from(number)))
 }
 
 fn double_info(alloc: Global, x: Fix8) -> Info
@@ -292,7 +290,11 @@ fn truth_info(alloc: Global, b: bool) -> Info
 {
     let number = truth(b);
     let value = Value::Num(IntKind::Bool, number);
-    literal(alloc, Base::Simple(SimpleType::Integer(IntKind::Bool)), value)
+    literal(
+        alloc,
+        Base::Simple(SimpleType::Integer(IntKind::Bool)),
+        value,
+    )
 }
 
 /// What a node tells that breaks no rule. What it calls is given.
@@ -305,8 +307,10 @@ fn made_at<P: ProgramFacts>(
     parts: ItemList<Option<Info>>,
 ) -> Result<Option<Info>, OutOfMemory>
     requires callee { call.now.callee ≡ callee_of (context_at P.program here.now) (node_at s.now parts) }
-    requires chosen { option_copied call.now.chosen ≡ chosen_at (context_at P.program here.now) (node_at s.now parts) }
-    ensures { IfOk result (λ r. r ≡ made_at s.now.what.now (context_at P.program here.now) (node_at s.now parts)) }
+    requires chosen { option_copied call.now.chosen ≡
+        chosen_at (context_at P.program here.now) (node_at s.now parts) }
+    ensures { IfOk result (λ r. r ≡
+        made_at s.now.what.now (context_at P.program here.now) (node_at s.now parts)) }
 {
     match s.what {
         Operation::Name(x) => name_info(alloc, here, s.place, x.as_slice()),
@@ -317,10 +321,8 @@ fn made_at<P: ProgramFacts>(
         Operation::Null => Ok(Some(null_info(alloc))),
         Operation::Call => called_with(alloc, here.program, call, parts),
         Operation::Conditional => three(alloc, parts),
-        Operation::Binary(_)
-        | Operation::Assign
-        | Operation::AssignWith(_)
-        | Operation::Index => two(alloc, s.what, parts),
+        Operation::Binary(_) | Operation::Assign | Operation::AssignWith(_) | Operation::Index =>
+            two(alloc, s.what, parts),
         Operation::Parentheses
         | Operation::Unary(_)
         | Operation::Postfix(_)
@@ -342,7 +344,8 @@ pub(crate) fn tells<P: ProgramFacts>(
     rule: Option<u8>,
 ) -> Result<Option<Info>, OutOfMemory>
     requires callee { call.now.callee ≡ callee_of (context_at P.program here.now) (node_at s.now parts) }
-    requires chosen { option_copied call.now.chosen ≡ chosen_at (context_at P.program here.now) (node_at s.now parts) }
+    requires chosen { option_copied call.now.chosen ≡
+        chosen_at (context_at P.program here.now) (node_at s.now parts) }
     requires rule { rule ≡ lowest (context_at P.program here.now) (node_at s.now parts) }
     ensures { IfOk result (λ r. r ≡ tells (context_at P.program here.now) (node_at s.now parts)) }
 {

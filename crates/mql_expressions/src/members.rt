@@ -90,7 +90,8 @@ fn is_named<P: ProgramFacts>(
     n: &NodeView,
     name: &[u16],
 ) -> Result<bool, OutOfMemory>
-    ensures { IfOk result (λ b. b ≡ is_some (name_info (context_at P.program here.now) n.now.place name.now)) }
+    ensures { IfOk result (λ b. b ≡
+        is_some (name_info (context_at P.program here.now) n.now.place name.now)) }
 {
     let i = name_info(alloc, here, n.place, name)?;
     Ok(i.is_some())

@@ -1,5 +1,5 @@
 //! The rules that ask about operands: of changed places, operators, conditions, indices and branches.
-ghost use Rattle.std.specs.Prelude.{◌≡◌, is_some};
+ghost use Rattle.std.specs.Prelude.{◌≡◌, ◌||◌};
 ghost use Rattle.mql_scope.specs.Contexts.{Context};
 ghost use Rattle.mql_calls.specs.Nodes.{passes, ask, some_part, is_void, is_whole_array, no_place, is_constant, is_of_input};
 ghost use Rattle.mql_types.specs.Operators.{no_numbers, bits_of_double, compares_structures, is_double};
@@ -7,9 +7,7 @@ ghost use Rattle.mql_expressions.specs.Rules.{base_at, operator_of, ask_base, as
 ghost use Rattle.mql_expressions.specs.Views.{node_of};
 
 use crate::node::{NodeView, base_at};
-use crate::tests::{
-    changes, is_complement, is_conditional, is_index, on_number, operator_of,
-};
+use crate::tests::{changes, is_complement, is_conditional, is_index, on_number, operator_of};
 use fx8::IntOperator;
 use mql_calls::{is_constant, is_of_input, is_void, is_whole_array, no_place, nth};
 use mql_syntax::{BinaryOperator, Operation, UnaryOperator};
@@ -337,7 +335,8 @@ pub(crate) fn no_number(n: &NodeView) -> bool
 }
 
 fn operator_on_bits(n: &NodeView) -> bool
-    ensures { result ≡ passes (λ o. ask_bases (bits_of_double o) (node_of n.now)) (operator_of n.now.what.now) }
+    ensures { result ≡
+        passes (λ o. ask_bases (bits_of_double o) (node_of n.now)) (operator_of n.now.what.now) }
 {
     match operator_of(n.what) {
         None => false,
@@ -359,7 +358,8 @@ fn array_compared(o: IntOperator, n: &NodeView) -> bool
 }
 
 fn compared_by(o: IntOperator, n: &NodeView) -> bool
-    ensures { result ≡ (array_compared o (node_of n.now) || ask_bases (compares_structures o) (node_of n.now)) }
+    ensures { result ≡
+        (array_compared o (node_of n.now) || ask_bases (compares_structures o) (node_of n.now)) }
 {
     array_compared(o, n) || structures_at(o, n)
 }

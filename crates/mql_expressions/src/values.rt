@@ -58,7 +58,8 @@ fn behind<'a, P: ProgramFacts>(
     here: &Here<'a, P>,
     info: &Option<Info>,
 ) -> Result<Here<'a, P>, OutOfMemory>
-    ensures { IfOk result (λ h. context_at P.program h ≡ behind_info info.now (context_at P.program here.now)) }
+    ensures { IfOk result (λ h. context_at P.program h ≡
+        behind_info info.now (context_at P.program here.now)) }
 {
     here.behind_values(kept_by(info))
 }
@@ -71,9 +72,12 @@ fn asked<'a, P: ProgramFacts>(
     n: &NodeView,
 ) -> Result<(Option<u8>, Call<'a>), OutOfMemory>
     ensures rule { IfOk result (λ r. r.0 ≡ lowest (context_at P.program here.now) (node_of n.now)) }
-    ensures callee { IfOk result (λ r. r.1.callee ≡ callee_of (context_at P.program here.now) (node_of n.now)) }
-    ensures chosen { IfOk result (λ r. option_copied r.1.chosen ≡ chosen_at (context_at P.program here.now) (node_of n.now)) }
-    ensures used { IfOk result (λ r. number_in (option_copied r.1.chosen) ≡ uses (context_at P.program here.now) (node_of n.now)) }
+    ensures callee { IfOk result (λ r. r.1.callee ≡
+        callee_of (context_at P.program here.now) (node_of n.now)) }
+    ensures chosen { IfOk result (λ r. option_copied r.1.chosen ≡
+        chosen_at (context_at P.program here.now) (node_of n.now)) }
+    ensures used { IfOk result (λ r. number_in (option_copied r.1.chosen) ≡
+        uses (context_at P.program here.now) (node_of n.now)) }
 {
     let callee = callee_at(alloc, here, n)?;
     let h = handed_at(alloc, here, n, callee)?;

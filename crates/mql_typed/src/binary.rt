@@ -148,12 +148,7 @@ pub(crate) fn sort_for(o: IntOperator, i: &Info, j: &Info) -> Option<Sort>
     }
 }
 
-fn by_operator(
-    alloc: Global,
-    o: IntOperator,
-    i: Info,
-    j: Info,
-) -> Result<Option<Info>, OutOfMemory>
+fn by_operator(alloc: Global, o: IntOperator, i: Info, j: Info) -> Result<Option<Info>, OutOfMemory>
     ensures { IfOk result (λ r. r ≡ by_operator o i j) }
 {
     match sort_for(o, &i, &j) {

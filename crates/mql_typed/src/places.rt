@@ -18,7 +18,9 @@ fn assigned(alloc: Global, i: Info, j: Info, b: Base) -> Result<Info, OutOfMemor
     ensures { IfOk result (λ r. r ≡ assigned i j b) }
 {
     let Info {
-        typed, kept: own, ..
+        typed,
+        kept: own,
+        ..
     } = i;
     let (x, more) = converted(alloc, b, j)?;
     let kept = joined(own, more)?;
@@ -50,7 +52,9 @@ fn updated(
     ensures { IfOk result (λ r. r ≡ updated o i j b s) }
 {
     let Info {
-        typed, kept: own, ..
+        typed,
+        kept: own,
+        ..
     } = i;
     let (x, more) = into_sort(alloc, s, j)?;
     let kept = joined(own, more)?;
@@ -58,12 +62,7 @@ fn updated(
     Ok(a_value(b, kept, e))
 }
 
-fn update_by(
-    alloc: Global,
-    o: IntOperator,
-    i: Info,
-    j: Info,
-) -> Result<Option<Info>, OutOfMemory>
+fn update_by(alloc: Global, o: IntOperator, i: Info, j: Info) -> Result<Option<Info>, OutOfMemory>
     ensures { IfOk result (λ r. r ≡ update_by o i j) }
 {
     match value_base(&i) {
@@ -144,10 +143,7 @@ fn one_part(alloc: Global, e: Expression) -> Result<ItemList<Expression>, OutOfM
     Ok(parts)
 }
 
-fn with_kept(
-    mut kept: ItemList<VarType>,
-    of: VarType,
-) -> Result<ItemList<VarType>, OutOfMemory>
+fn with_kept(mut kept: ItemList<VarType>, of: VarType) -> Result<ItemList<VarType>, OutOfMemory>
     ensures { IfOk result (λ r. r ≡ kept ++ of ∷ []) }
 {
     kept.push(of)?;
@@ -182,7 +178,9 @@ pub fn kept_field(
     ensures { IfOk result (λ r. r ≡ kept_field l n whole t i) }
 {
     let Info {
-        typed, kept: own, ..
+        typed,
+        kept: own,
+        ..
     } = i;
     let of = var_type(alloc, whole)?;
     let kept = with_kept(own, of)?;

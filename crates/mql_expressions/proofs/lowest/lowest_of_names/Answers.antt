@@ -10,6 +10,6 @@ returns g c =
     let x = context_at g.P.ProgramFacts.program c.args.here.now in
     let n = node_of c.args.n.now in
     one_more x n (rule 1 unknown_name) _ _ _ _ (c.in_ok-one.ensures)
-      (one_more x n (rule 2 unknown_member) _ _ _ _ (c.unknown_member-two.ensures)
-      (one_more x n (rule 3 not_accessible) _ _ _ _ (c.not_accessible-three.ensures)
-      refl c.broken-from_three.ensures) c.broken-from_two.ensures) c.broken.ensures
+    (one_more x n (rule 2 unknown_member) _ _ _ _ (c.unknown_member-two.ensures)
+    (one_more x n (rule 3 not_accessible) _ _ _ _ (c.not_accessible-three.ensures)
+    refl c.broken-from_three.ensures) c.broken-from_two.ensures) c.broken.ensures

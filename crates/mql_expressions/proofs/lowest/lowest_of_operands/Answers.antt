@@ -10,10 +10,10 @@ returns g c =
     let x = context_at g.P.ProgramFacts.program c.args.here.now in
     let n = node_of c.args.n.now in
     one_more x n (rule 11 input_changed) _ _ _ _ (c.input_changed.ensures x)
-      (one_more x n (rule 12 left_no_place) _ _ _ _ (c.left_no_place.ensures x)
-      (one_more x n (rule 13 no_conversion) _ _ _ _ (c.in_ok-unfit.ensures)
-      (one_more x n (rule 14 no_number) _ _ _ _ (c.no_number.ensures x)
-      (one_more x n (rule 15 double_bits) _ _ _ _ (c.double_bits.ensures x)
-      (one_more x n (rule 16 structures_compared) _ _ _ _ (c.structures_compared.ensures x)
-      (one_more x n (rule 17 condition_no_number) _ _ _ _ (c.condition_no_number.ensures x)
-      refl c.broken-from_seventeen.ensures) c.broken-from_sixteen.ensures) c.broken-from_fifteen.ensures) c.broken-from_fourteen.ensures) c.broken-from_thirteen.ensures) c.broken-from_twelve.ensures) c.broken.ensures
+    (one_more x n (rule 12 left_no_place) _ _ _ _ (c.left_no_place.ensures x)
+    (one_more x n (rule 13 no_conversion) _ _ _ _ (c.in_ok-unfit.ensures)
+    (one_more x n (rule 14 no_number) _ _ _ _ (c.no_number.ensures x)
+    (one_more x n (rule 15 double_bits) _ _ _ _ (c.double_bits.ensures x)
+    (one_more x n (rule 16 structures_compared) _ _ _ _ (c.structures_compared.ensures x)
+    (one_more x n (rule 17 condition_no_number) _ _ _ _ (c.condition_no_number.ensures x)
+    refl c.broken-from_seventeen.ensures) c.broken-from_sixteen.ensures) c.broken-from_fifteen.ensures) c.broken-from_fourteen.ensures) c.broken-from_thirteen.ensures) c.broken-from_twelve.ensures) c.broken.ensures

@@ -10,9 +10,9 @@ returns g c =
     let x = context_at g.P.ProgramFacts.program c.args.here.now in
     let n = node_of c.args.n.now in
     one_more x n (rule 27 new_of_no_class) _ _ _ _ (c.is_new.ensures)
-      (one_more x n (rule 29 unrelated_pointers) _ _ _ _ (c.on_pointer.ensures)
-      (one_more x n (rule 30 this_outside) _ _ _ _ (c.is_this.ensures)
-      (one_more x n (rule 35 braces_alone) _ _ _ _ (c.is_braces.ensures)
-      (one_more x n (rule 38 series_flag) _ _ _ _ (c.series_flag.ensures)
-      (one_more x n (rule 39 branches_differ) _ _ _ _ (c.branches_differ.ensures x)
-      refl c.broken-from_branches.ensures) c.broken-from_series.ensures) c.broken-from_braces.ensures) c.broken-from_this.ensures) c.broken-from_pointers.ensures) c.broken.ensures
+    (one_more x n (rule 29 unrelated_pointers) _ _ _ _ (c.on_pointer.ensures)
+    (one_more x n (rule 30 this_outside) _ _ _ _ (c.is_this.ensures)
+    (one_more x n (rule 35 braces_alone) _ _ _ _ (c.is_braces.ensures)
+    (one_more x n (rule 38 series_flag) _ _ _ _ (c.series_flag.ensures)
+    (one_more x n (rule 39 branches_differ) _ _ _ _ (c.branches_differ.ensures x)
+    refl c.broken-from_branches.ensures) c.broken-from_series.ensures) c.broken-from_braces.ensures) c.broken-from_this.ensures) c.broken-from_pointers.ensures) c.broken.ensures

@@ -10,7 +10,7 @@ returns g c =
     let x = context_at g.P.ProgramFacts.program c.args.here.now in
     let n = node_of c.args.n.now in
     one_more x n (rule 23 void_used) _ _ _ _ (c.some_void.ensures)
-      (one_more x n (rule 24 index_no_array) _ _ _ _ (c.index_no_array.ensures x)
-      (one_more x n (rule 25 index_no_integer) _ _ _ _ (c.index_no_integer.ensures x)
-      (one_more x n (rule 26 array_used) _ _ _ _ (c.array_used.ensures)
-      refl c.broken-from_array.ensures) c.broken-from_integer.ensures) c.broken-from_index.ensures) c.broken.ensures
+    (one_more x n (rule 24 index_no_array) _ _ _ _ (c.index_no_array.ensures x)
+    (one_more x n (rule 25 index_no_integer) _ _ _ _ (c.index_no_integer.ensures x)
+    (one_more x n (rule 26 array_used) _ _ _ _ (c.array_used.ensures)
+    refl c.broken-from_array.ensures) c.broken-from_integer.ensures) c.broken-from_index.ensures) c.broken.ensures

@@ -10,5 +10,5 @@ invariant-found_all-loop-v g l =
       context : context_at g.P.ProgramFacts.program l.at ≡ all_behind c (take l.v-index l.values);
       infos : l.infos ≡ infos_in (found_all c (take l.v-index l.values));
       broken : l.broken ≡ broken_in (found_all c (take l.v-index l.values));
-      used : l.used ≡ used_in (found_all c (take l.v-index l.values))
+      used : l.used ≡ used_in (found_all c (take l.v-index l.values));
     }
