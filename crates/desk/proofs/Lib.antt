@@ -1,4 +1,5 @@
 pub mod Changes
+pub mod Closed
 pub mod Days
 pub mod Entered
 pub mod Filling

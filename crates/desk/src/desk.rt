@@ -3,6 +3,8 @@ ghost use Rattle.std.specs.Prelude.{◌≡◌, ◌≤◌, ◌<◌, ◌+◌, ◌�
 ghost use Rattle.market_types.specs.Ordered.{IsMoment};
 ghost use Rattle.account.specs.declared.event.Event.TheVariants as event;
 ghost use Rattle.account.specs.Journal.{deposit_deal};
+ghost use Rattle.account.specs.Orders.{orders_in_force};
+ghost use Rattle.account.specs.Positions.{open_positions};
 ghost use Rattle.account.specs.Ranges.{IsAccount};
 ghost use Rattle.desk.specs.Requests.{judged, Sends};
 ghost use Rattle.desk.specs.State.{DeskState};
@@ -10,9 +12,10 @@ ghost use Rattle.desk.specs.State.{DeskState};
 use crate::DeskFault;
 use crate::books::Books;
 use crate::requests::answer;
-use account::{AccountSpec, Ledger};
+use account::{AccountSpec, Ledger, Prices};
 use fx8::OutOfMemory;
 use judgement::{Answer, Request};
+use order_book::Orders;
 use positions::PositionRule;
 use std::alloc::Global;
 use std::marker::Model;
@@ -86,5 +89,28 @@ impl<P: PositionRule + Drop> Desk<P> {
         ensures events { result.now.events ≡ self.now.quoted.events }
     {
         self.books.ledger()
+    }
+
+    /// The orders in force.
+    pub fn orders(&self) -> &Orders
+        requires open { self.now.closed ≡ false }
+        ensures { result.now ≡ orders_in_force self.now.quoted.events }
+    {
+        self.books.orders()
+    }
+
+    /// The open positions.
+    pub fn positions(&self) -> &P
+        requires open { self.now.closed ≡ false }
+        ensures { P.positions result.now ≡ open_positions self.now.quoted.events }
+    {
+        self.books.rule()
+    }
+
+    /// The last loud Bid and Ask of each symbol.
+    pub fn prices(&self) -> &Prices
+        ensures { result.now ≡ self.now.quoted.prices }
+    {
+        self.books.prices()
     }
 }

@@ -2,6 +2,7 @@
 #![tactic(auto)]
 
 mod books;
+mod closing;
 mod copies;
 mod desk;
 mod fault;
