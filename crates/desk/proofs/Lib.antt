@@ -1,6 +1,9 @@
+pub mod Accrued
+pub mod Answered
 pub mod Changes
 pub mod Closed
 pub mod Days
+pub mod Ended
 pub mod Entered
 pub mod Filling
 pub mod Fits
@@ -10,9 +13,11 @@ pub mod Outcomes
 pub mod Paired
 pub mod Pairs
 pub mod Paying
+pub mod Quoting
 pub mod Ready
 pub mod Room
 pub mod Samples
 pub mod Stepping
 pub mod Sums
 pub mod Tidy
+pub mod Unticketed

@@ -1,6 +1,7 @@
 pub mod Books
 pub mod Effect
 pub mod Nights
+pub mod Quotes
 pub mod Requests
 pub mod Runs
 pub mod Sound

@@ -6,11 +6,14 @@ ghost use Rattle.account.specs.Journal.{deposit_deal};
 ghost use Rattle.account.specs.Orders.{orders_in_force};
 ghost use Rattle.account.specs.Positions.{open_positions};
 ghost use Rattle.account.specs.Ranges.{IsAccount};
+ghost use Rattle.desk.specs.Effect.{last_time};
+ghost use Rattle.desk.specs.Quotes.{Closes};
 ghost use Rattle.desk.specs.Requests.{judged, Sends};
 ghost use Rattle.desk.specs.State.{DeskState};
 
 use crate::DeskFault;
 use crate::books::Books;
+use crate::ending::end;
 use crate::requests::answer;
 use account::{AccountSpec, Ledger, Prices};
 use fx8::OutOfMemory;
@@ -83,6 +86,17 @@ impl<P: PositionRule + Drop> Desk<P> {
         Ok(done)
     }
 
+    /// Removes all orders, and then closes all positions at the last loud prices, by rising ticket, at the
+    /// time of the last loud quote, as at the end of a test. `DealsExhausted` exactly where a deal of that
+    /// would be the 50,001st; what was done before stands. After `OutOfMemory` the desk is closed.
+    #[tactic(auto, using(crate::proofs::Answered::desk_leaves, crate::proofs::Answered::few_taken, crate::proofs::Unticketed::closing_last))]
+    pub fn close_all(&mut self) -> Result<(), DeskFault>
+        requires open { self.old.closed ≡ false }
+        ensures { Closes self.old result self.new }
+    {
+        end(&mut self.books)
+    }
+
     /// The account and its journal.
     pub fn ledger(&self) -> &Ledger
         ensures spec { result.now.spec ≡ self.now.quoted.spec }
@@ -105,6 +119,13 @@ impl<P: PositionRule + Drop> Desk<P> {
         ensures { P.positions result.now ≡ open_positions self.now.quoted.events }
     {
         self.books.rule()
+    }
+
+    /// When the last loud quote of any symbol came, in milliseconds; 0 before the first.
+    pub fn last_time(&self) -> i64
+        ensures { result ≡ last_time self.now.quoted.times }
+    {
+        self.books.last_time()
     }
 
     /// The last loud Bid and Ask of each symbol.

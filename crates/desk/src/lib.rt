@@ -5,9 +5,12 @@ mod books;
 mod closing;
 mod copies;
 mod desk;
+mod ending;
+mod expiry;
 mod fault;
 mod quoted;
 mod requests;
+mod swap;
 mod trigger;
 
 pub use desk::Desk;
