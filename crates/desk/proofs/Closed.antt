@@ -84,7 +84,7 @@ closing_modest deal time_ms pair why p = (λ e. absurd (differ (other_side p.buy
     less v l = omega (arith, ints, l)
 
 -- the prices at which it closes
-last_fit : (q : Quoted) (symbol : ℕ) (o : Option (ℤ × ℤ)) → AreQuoted q.spec q.prices q.times → prices_at q.prices symbol ≡ o → is_some o ≡ true → ArePrices (unwrap_or o (pos 0, pos 0))
+pub last_fit : (q : Quoted) (symbol : ℕ) (o : Option (ℤ × ℤ)) → AreQuoted q.spec q.prices q.times → prices_at q.prices symbol ≡ o → is_some o ≡ true → ArePrices (unwrap_or o (pos 0, pos 0))
 last_fit q symbol None a e h = absurd (cc)
 last_fit q symbol (Some pair) a e h = prices_fit q.prices symbol pair a.ranges e
 

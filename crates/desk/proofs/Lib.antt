@@ -3,6 +3,9 @@ pub mod Closed
 pub mod Days
 pub mod Entered
 pub mod Filling
+pub mod FiringLists
+pub mod FiringOrders
+pub mod FiringRuns
 pub mod Fits
 pub mod Judged
 pub mod Lasting
@@ -14,5 +17,6 @@ pub mod Ready
 pub mod Room
 pub mod Samples
 pub mod Stepping
+pub mod StopOutDue
 pub mod Sums
 pub mod Tidy

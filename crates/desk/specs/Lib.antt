@@ -1,5 +1,6 @@
 pub mod Books
 pub mod Effect
+pub mod Firing
 pub mod Nights
 pub mod Requests
 pub mod Runs

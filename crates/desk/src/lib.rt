@@ -6,8 +6,11 @@ mod closing;
 mod copies;
 mod desk;
 mod fault;
+mod fired;
+mod firing;
 mod quoted;
 mod requests;
+mod stop_out;
 mod trigger;
 
 pub use desk::Desk;
