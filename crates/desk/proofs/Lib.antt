@@ -6,6 +6,9 @@ pub mod Days
 pub mod Ended
 pub mod Entered
 pub mod Filling
+pub mod FiringLists
+pub mod FiringOrders
+pub mod FiringRuns
 pub mod Fits
 pub mod Judged
 pub mod Lasting
@@ -18,6 +21,8 @@ pub mod Ready
 pub mod Room
 pub mod Samples
 pub mod Stepping
+pub mod StopOutDue
 pub mod Sums
 pub mod Tidy
 pub mod Unticketed
+pub mod Whole

@@ -159,7 +159,7 @@ pub price_fits : (b : Bool) (pair : ℤ × ℤ) → ArePrices pair → FitsSigne
 price_fits true pair h = omega (arith, ints, h.0.above, h.0.most)
 price_fits false pair h = omega (arith, ints, h.1.above, h.1.most)
 
-modest_all : (f : Fill) (o : Option Position) → f.volume ≤ℤ pos (10 ^ 11) → IsModest f o
+pub modest_all : (f : Fill) (o : Option Position) → f.volume ≤ℤ pos (10 ^ 11) → IsModest f o
 modest_all f None h = h
 modest_all f (Some p) h = (λ e. h, λ e. h)
 

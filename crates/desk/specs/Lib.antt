@@ -1,5 +1,6 @@
 pub mod Books
 pub mod Effect
+pub mod Firing
 pub mod Nights
 pub mod Quotes
 pub mod Requests

@@ -306,6 +306,20 @@ impl<P: PositionRule + Drop> Books<P> {
         Ok(())
     }
 
+    /// Makes a stop-limit order a limit order.
+    #[tactic(auto, using(crate::proofs::Stepping::step_quiet))]
+    pub(crate) fn trigger(&mut self, ticket: u64) -> Result<(), OutOfMemory>
+        requires whole { self.old.broken ≡ false }
+        ensures ok { OnOk result (self.new ≡ gained (event.Triggered ticket ∷ []) self.old) }
+        ensures err { OnErr result (self.new.broken ≡ true) }
+    {
+        self.broken = true;
+        let _stands = self.orders.trigger(ticket);
+        self.quoted.enter(Event::Triggered(ticket))?;
+        self.broken = false;
+        Ok(())
+    }
+
     /// Sets the stops of a position.
     #[tactic(auto, using(crate::proofs::Stepping::step_quiet))]
     pub(crate) fn set_stops(&mut self, ticket: u64, sl: Fix8, tp: Fix8) -> Result<(), OutOfMemory>

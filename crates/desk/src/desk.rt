@@ -7,17 +7,19 @@ ghost use Rattle.account.specs.Orders.{orders_in_force};
 ghost use Rattle.account.specs.Positions.{open_positions};
 ghost use Rattle.account.specs.Ranges.{IsAccount};
 ghost use Rattle.desk.specs.Effect.{last_time};
-ghost use Rattle.desk.specs.Quotes.{Closes};
+ghost use Rattle.desk.specs.Quotes.{MayQuote, Quotes, Closes};
 ghost use Rattle.desk.specs.Requests.{judged, Sends};
 ghost use Rattle.desk.specs.State.{DeskState};
 
 use crate::DeskFault;
 use crate::books::Books;
+use crate::effect::effect;
 use crate::ending::end;
 use crate::requests::answer;
 use account::{AccountSpec, Ledger, Prices};
 use fx8::OutOfMemory;
 use judgement::{Answer, Request};
+use market_types::Quote;
 use order_book::Orders;
 use positions::PositionRule;
 use std::alloc::Global;
@@ -84,6 +86,19 @@ impl<P: PositionRule + Drop> Desk<P> {
         let done = answer(&mut self.books, time_ms, request)?;
         self.requests += 1;
         Ok(done)
+    }
+
+    /// A loud quote comes: its prices and its time stand from then on, and what it does to the account is done
+    /// before an expert sees it: swap, expiry, what fires, stop-out (MetaTrader 5 Help, Types of Orders, Stop
+    /// Loss and Take Profit, Stop Out). `DealsExhausted` exactly where a deal of that would be the 50,001st;
+    /// what was done before stands. After `OutOfMemory` the desk is closed.
+    #[tactic(auto, using(crate::proofs::Answered::desk_leaves, crate::proofs::Answered::few_taken, crate::proofs::Unticketed::effect_last))]
+    pub fn quote(&mut self, quote: &Quote) -> Result<(), DeskFault>
+        requires open { self.old.closed ≡ false }
+        requires quote { MayQuote self.old.quoted quote.now }
+        ensures { Quotes self.old quote.now result self.new }
+    {
+        effect(&mut self.books, quote)
     }
 
     /// Removes all orders, and then closes all positions at the last loud prices, by rising ticket, at the
