@@ -49,7 +49,7 @@ effect_stops b b1 b2 b3 quote r w e f x k = stop_by b b2 b3 quote r (begun b b1 
     stop_by b b2 b3 quote (Err desk_fault.DealsExhausted) h x k =
         let fired : Run = triggered_run b2.quoted.spec b2.quoted.prices quote (so_far b2) in
         let same : fired ≡ effect b.quoted quote = sym (stopped_full b.quoted.spec (with_quote quote b.quoted).prices quote.time_ms _ fired k.0) ∙ ap (λ (r : Run). stopped_out_run b.quoted.spec (with_quote quote b.quoted).prices quote.time_ms r) (fired_is b b2 quote h) in
-        subst (λ (r : Run). Runs {A = Unit {0}} (at_quote quote b) r (Err desk_fault.DealsExhausted) b3) same (runs_like b2 (at_quote quote b) fired (Err desk_fault.DealsExhausted) b3 h.like k)
+        subst (λ (r : Run). Runs {A = Unit {0}} (at_quote quote b) r (Err desk_fault.DealsExhausted) b3) same (runs_like {A = Unit {0}} b2 (at_quote quote b) fired (Err desk_fault.DealsExhausted) b3 h.like k)
     stop_by b b2 b3 quote (Err desk_fault.RequestsExhausted) h x k = absurd k
     stop_by b b2 b3 quote (Err desk_fault.OutOfMemory) h x k = k
 

@@ -6,6 +6,7 @@ ghost use Rattle.account.specs.Journal.{deposit_deal};
 ghost use Rattle.account.specs.Orders.{orders_in_force};
 ghost use Rattle.account.specs.Positions.{open_positions};
 ghost use Rattle.account.specs.Ranges.{IsAccount};
+ghost use Rattle.account.specs.StopOut.{equity};
 ghost use Rattle.desk.specs.Effect.{last_time};
 ghost use Rattle.desk.specs.Quotes.{MayQuote, Quotes, Closes};
 ghost use Rattle.desk.specs.Requests.{judged, Sends};
@@ -17,7 +18,7 @@ use crate::effect::effect;
 use crate::ending::end;
 use crate::requests::answer;
 use account::{AccountSpec, Ledger, Prices};
-use fx8::OutOfMemory;
+use fx8::{Money, OutOfMemory};
 use judgement::{Answer, Request};
 use market_types::Quote;
 use order_book::Orders;
@@ -88,9 +89,9 @@ impl<P: PositionRule + Drop> Desk<P> {
         Ok(done)
     }
 
-    /// A loud quote comes: its prices and its time stand from then on, and what it does to the account is done
-    /// before an expert sees it: swap, expiry, what fires, stop-out (MetaTrader 5 Help, Types of Orders, Stop
-    /// Loss and Take Profit, Stop Out). `DealsExhausted` exactly where a deal of that would be the 50,001st;
+    /// A loud quote comes: its prices and its time stand from then on, and what it does to the account is
+    /// done before an expert sees it: swap, expiry, what fires, stop-out (MetaTrader 5 Help, Types of Orders,
+    /// Stop Loss and Take Profit, Stop Out). `DealsExhausted` exactly where a deal of that would be the 50,001st;
     /// what was done before stands. After `OutOfMemory` the desk is closed.
     #[tactic(auto, using(crate::proofs::Answered::desk_leaves, crate::proofs::Answered::few_taken, crate::proofs::Unticketed::effect_last))]
     pub fn quote(&mut self, quote: &Quote) -> Result<(), DeskFault>
@@ -134,6 +135,18 @@ impl<P: PositionRule + Drop> Desk<P> {
         ensures { P.positions result.now ≡ open_positions self.now.quoted.events }
     {
         self.books.rule()
+    }
+
+    /// The equity: the balance and all floating profits, at the last loud Bid for a buy and Ask for a sell
+    /// (MetaTrader 5 Help, Margin Calculation).
+    #[tactic(auto, using(crate::proofs::StopOutDue::is_priced))]
+    pub fn equity(&self) -> Money
+        ensures { result ≡ equity self.now.quoted.spec.specs self.now.quoted.prices self.now.quoted.events }
+    {
+        self.books.is_sound();
+        let prices = self.books.prices();
+        prices.ranges();
+        self.books.ledger().equity(prices)
     }
 
     /// When the last loud quote of any symbol came, in milliseconds; 0 before the first.
