@@ -1,5 +1,5 @@
 -- Stop-out: what the ledger asks for, and positions closed one after another.
-use Rattle.std.proofs.Common.{◌≡◌, ◌∙◌, ℕ, suc, zero, ◌+◌, ◌^◌, ◌≤◌, Bool, true, false, List, [], ◌∷◌, length, slice_index_or, Option, Some, None, Result, Ok, Err, ℤ, pos, ◌+ℤ◌, unsigned_abs, FitsSigned, refl, ap, sym, subst, arith}
+use Rattle.std.proofs.Common.{◌≡◌, ◌∙◌, ℕ, suc, zero, ◌+◌, ◌^◌, ◌≤◌, true, false, List, [], length, slice_index_or, Option, Some, None, Ok, Err, ℤ, pos, ◌+ℤ◌, unsigned_abs, FitsSigned, refl, ap, sym, subst, arith}
 use Rattle.std.specs.Int.{w128}
 use Rattle.std.specs.List.{All}
 use Rattle.std.specs.Option.{option_map_or}
@@ -7,14 +7,13 @@ use Rattle.std.proofs.lemmas.Int.{ints}
 use Rattle.std.proofs.lemmas.List.Elements.{All-nil}
 use Rattle.account.specs.declared.account_spec.AccountSpec.{AccountSpec}
 use Rattle.account.specs.declared.deal.DealReason.TheVariants as reason
-use Rattle.account.specs.declared.event.Event.{Event}
 use Rattle.account.specs.declared.position.Position.{Position}
-use Rattle.account.specs.Deals.{deals, total, balance}
+use Rattle.account.specs.Deals.{deals, balance}
 use Rattle.account.specs.Doubles.{IsPair}
 use Rattle.account.specs.Journal.{Journal}
 use Rattle.account.specs.Positions.{open_positions}
 use Rattle.account.specs.Ranges.{IsPriced}
-use Rattle.account.specs.StopOut.{PriceList, floating, equity_of, worst}
+use Rattle.account.specs.StopOut.{PriceList, equity_of, worst}
 use Rattle.account.proofs.Bounds.{few_open}
 use Rattle.positions.specs.Money.{event_net, IsCountable}
 use Rattle.positions.proofs.Room.{IsLight, light_counted}

@@ -1,4 +1,4 @@
-use Rattle.std.proofs.Common.{◌≡◌, ◌-◌, ◌≤◌, ℤ, length, Some, None, Ok, subst, arith, rules, to_z, of_z, w64}
+use Rattle.std.proofs.Common.{◌≡◌, ◌-◌, ℤ, length, Some, None, Ok, subst, arith, rules, to_z, of_z, w64}
 use Rattle.std.proofs.lemmas.Int.{to_z-of_z}
 use Rattle.account.specs.Positions.{open_positions}
 use Rattle.account.specs.StopOut.{worst}
