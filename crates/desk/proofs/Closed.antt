@@ -61,7 +61,7 @@ found_met os ps deal time_ms pair why p (Some x) r y e h =
     some_none : (x : Position) → Some x ≡ None → ⊥
     some_none x h = cc
 
-closing_met : (hedging : Bool) (os : List Order) (ps : List Position) (deal : ℕ) (time_ms : ℤ) (pair : ℤ × ℤ) (why : DealReason) (p : Position) → Rising position_ticket ps → IsTidy hedging os ps → 0 < p.ticket → item position_ticket p.ticket ps ≡ Some p → met hedging ps (fill_of_closing deal time_ms pair why p) ≡ Some p
+pub closing_met : (hedging : Bool) (os : List Order) (ps : List Position) (deal : ℕ) (time_ms : ℤ) (pair : ℤ × ℤ) (why : DealReason) (p : Position) → Rising position_ticket ps → IsTidy hedging os ps → 0 < p.ticket → item position_ticket p.ticket ps ≡ Some p → met hedging ps (fill_of_closing deal time_ms pair why p) ≡ Some p
 closing_met true os ps deal time_ms pair why p r y z e = rw (not_zero p.ticket z) e
 closing_met false os ps deal time_ms pair why p r y z e = found_met os ps deal time_ms pair why p (met false ps (fill_of_closing deal time_ms pair why p)) r y e refl
 
@@ -117,7 +117,7 @@ closing_ready q deal time_ms why p a s e =
     some_none x h = cc
 
 -- what is found at a ticket is the item of its own
-own_item : (ps : List Position) (t : ℕ) (p : Position) → item position_ticket t ps ≡ Some p → item position_ticket p.ticket ps ≡ Some p
+pub own_item : (ps : List Position) (t : ℕ) (p : Position) → item position_ticket t ps ≡ Some p → item position_ticket p.ticket ps ≡ Some p
 own_item ps t p e =
     let k : KeyIs position_ticket t (Some p) = subst (λ (o : Option Position). KeyIs position_ticket t o) e (item_key position_ticket t ps) in
     subst (λ (n : ℕ). item position_ticket n ps ≡ Some p) (sym k) e

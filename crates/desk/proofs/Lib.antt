@@ -22,6 +22,7 @@ pub mod Room
 pub mod Samples
 pub mod Stepping
 pub mod StopOutDue
+pub mod StopOutEnds
 pub mod Sums
 pub mod Tidy
 pub mod Unticketed

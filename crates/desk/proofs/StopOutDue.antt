@@ -1,5 +1,5 @@
 -- Stop-out: what the ledger asks for, and positions closed one after another.
-use Rattle.std.proofs.Common.{◌≡◌, ◌∙◌, ℕ, suc, zero, ◌+◌, ◌^◌, ◌≤◌, Bool, true, false, List, [], ◌∷◌, length, slice_index_or, Option, Some, None, Result, Ok, Err, ℤ, pos, ◌+ℤ◌, unsigned_abs, FitsSigned, refl, ap, sym, subst, arith}
+use Rattle.std.proofs.Common.{◌≡◌, ◌∙◌, ℕ, suc, zero, ◌+◌, ◌^◌, ◌≤◌, true, false, List, [], length, slice_index_or, Option, Some, None, Ok, Err, ℤ, pos, ◌+ℤ◌, unsigned_abs, FitsSigned, refl, ap, sym, subst, arith}
 use Rattle.std.specs.Int.{w128}
 use Rattle.std.specs.List.{All}
 use Rattle.std.specs.Option.{option_map_or}
@@ -7,14 +7,13 @@ use Rattle.std.proofs.lemmas.Int.{ints}
 use Rattle.std.proofs.lemmas.List.Elements.{All-nil}
 use Rattle.account.specs.declared.account_spec.AccountSpec.{AccountSpec}
 use Rattle.account.specs.declared.deal.DealReason.TheVariants as reason
-use Rattle.account.specs.declared.event.Event.{Event}
 use Rattle.account.specs.declared.position.Position.{Position}
-use Rattle.account.specs.Deals.{deals, total, balance}
+use Rattle.account.specs.Deals.{deals, balance}
 use Rattle.account.specs.Doubles.{IsPair}
 use Rattle.account.specs.Journal.{Journal}
 use Rattle.account.specs.Positions.{open_positions}
 use Rattle.account.specs.Ranges.{IsPriced}
-use Rattle.account.specs.StopOut.{PriceList, floating, equity_of, worst}
+use Rattle.account.specs.StopOut.{PriceList, equity_of, worst}
 use Rattle.account.proofs.Bounds.{few_open}
 use Rattle.positions.specs.Money.{event_net, IsCountable}
 use Rattle.positions.proofs.Room.{IsLight, light_counted}
@@ -70,9 +69,10 @@ pub record IsStopping (time_ms : ℤ) (b0 b : Kept) (most left : ℕ) : Type 0 w
   pub whole : b.broken ≡ false
   pub kept : b ≡ after_run (run_from b) b0
   pub others : stopped_out b0.quoted.spec b0.quoted.prices time_ms left (run_from b) ≡ stopped_out b0.quoted.spec b0.quoted.prices time_ms most (run_from b0)
+  pub few : length (open_positions b.quoted.events) ≤ left
 
-pub stopping_begins : (time_ms : ℤ) (b : Kept) (most left : ℕ) → b.broken ≡ false → left ≡ most → IsStopping time_ms b b most left
-stopping_begins time_ms b most left h e = rw e (record { whole = h; kept = refl; others = refl })
+pub stopping_begins : (time_ms : ℤ) (b : Kept) (left : ℕ) → b.broken ≡ false → left ≡ length (open_positions b.quoted.events) → IsStopping time_ms b b (length (open_positions b.quoted.events)) left
+stopping_begins time_ms b left h e = rw e (record { whole = h; kept = refl; others = refl; few = omega arith })
 
 -- a position is to be closed
 next_closed : (time_ms : ℤ) (b0 b : Kept) (n t : ℕ) → b ≡ after_run (run_from b) b0 → worst b.quoted.spec b.quoted.prices b.quoted.events ≡ Some t → stopped_out b0.quoted.spec b0.quoted.prices time_ms (suc n) (run_from b) ≡ stopped_out b0.quoted.spec b0.quoted.prices time_ms n (act (closing_of b.quoted.spec b.quoted.prices time_ms reason.StopOut t) (run_from b))
@@ -81,8 +81,8 @@ next_closed time_ms b0 b n t k h =
     ap (λ (o : Option ℕ). option_map_or (λ (u : ℕ). stopped_out b0.quoted.spec b0.quoted.prices time_ms n (act (closing_of b0.quoted.spec b0.quoted.prices time_ms reason.StopOut u) (run_from b))) o (run_from b)) w
     ∙ ap (λ (x : Kept). stopped_out b0.quoted.spec b0.quoted.prices time_ms n (act (closing_of x.quoted.spec x.quoted.prices time_ms reason.StopOut t) (run_from b))) (sym k)
 
-pub stopping_goes : (time_ms : ℤ) (b0 b b' : Kept) (most left n t : ℕ) (u : Unit {0}) → IsStopping time_ms b0 b most left → left ≡ n + 1 → worst b.quoted.spec b.quoted.prices b.quoted.events ≡ Some t → Runs b (act (closing_of b.quoted.spec b.quoted.prices time_ms reason.StopOut t) (run_from b)) (Ok u) b' → IsStopping time_ms b0 b' most n
-stopping_goes time_ms b0 b b' most left n t u w e g h =
+pub stopping_goes : (time_ms : ℤ) (b0 b b' : Kept) (most left n t : ℕ) (u : Unit {0}) → IsStopping time_ms b0 b most left → left ≡ n + 1 → worst b.quoted.spec b.quoted.prices b.quoted.events ≡ Some t → Runs b (act (closing_of b.quoted.spec b.quoted.prices time_ms reason.StopOut t) (run_from b)) (Ok u) b' → length (open_positions b'.quoted.events) + 1 ≤ length (open_positions b.quoted.events) → IsStopping time_ms b0 b' most n
+stopping_goes time_ms b0 b b' most left n t u w e g h d =
     let run : Run = act (closing_of b.quoted.spec b.quoted.prices time_ms reason.StopOut t) (run_from b) in
     let r : run ≡ run_from b' = run_left b b' run u h in
     let s : left ≡ suc n = omega (arith, e) in
@@ -91,6 +91,7 @@ stopping_goes time_ms b0 b b' most left n t u w e g h =
       kept = still_kept b0 b b' run w.kept h.1 ∙ ap (λ (k : Run). after_run k b0) r;
       others = ap (λ (k : Run). stopped_out b0.quoted.spec b0.quoted.prices time_ms n k) (sym r) ∙ sym (next_closed time_ms b0 b n t w.kept g)
           ∙ ap (λ (m : ℕ). stopped_out b0.quoted.spec b0.quoted.prices time_ms m (run_from b)) (sym s) ∙ w.others;
+      few = omega (arith, w.few, d, e);
     }
 
 -- its deal finds no room, or there is no memory

@@ -1,5 +1,5 @@
 -- The fill of an order in force (own).
-use Rattle.std.specs.Prelude.{ℕ, ◌≡◌, ◌<◌, ◌≤◌, None}
+use Rattle.std.specs.Prelude.{◌≡◌, ◌<◌, ◌≤◌, None}
 use Rattle.account.specs.Keyed.{item}
 use Rattle.account.specs.Positions.{position_ticket, open_positions}
 use Rattle.positions.specs.declared.fill.Fill.{Fill}

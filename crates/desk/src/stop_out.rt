@@ -1,5 +1,5 @@
 //! Stop-out.
-ghost use Rattle.std.specs.Prelude.{◌≡◌, false};
+ghost use Rattle.std.specs.Prelude.{◌≡◌, false, None, OnOk};
 ghost use Rattle.account.specs.StopOut.{worst};
 ghost use Rattle.desk.specs.Effect.{stopped_out_run};
 ghost use Rattle.desk.specs.Runs.{Runs};
@@ -23,20 +23,23 @@ fn worst<P: PositionRule + Drop>(books: &Books<P>) -> Option<u64>
 }
 
 /// While a stop-out is due, closes the position of least floating profit (MetaTrader 5 Help, Stop Out).
-#[tactic(auto, using(crate::proofs::StopOutDue::stopping_begins, crate::proofs::StopOutDue::stopping_goes, crate::proofs::StopOutDue::stopping_done, crate::proofs::StopOutDue::stopping_ends))]
+#[tactic(auto, using(crate::proofs::StopOutDue::stopping_begins, crate::proofs::StopOutDue::stopping_goes, crate::proofs::StopOutDue::stopping_done, crate::proofs::StopOutDue::stopping_ends, crate::proofs::StopOutEnds::none_worst))]
 pub(crate) fn stop_out<P: PositionRule + Drop>(
     books: &mut Books<P>,
     time_ms: i64,
 ) -> Result<(), DeskFault>
     requires { books.old.broken ≡ false }
-    ensures { Runs books.old (stopped_out_run books.old.quoted.spec books.old.quoted.prices time_ms
+    ensures runs { Runs books.old (stopped_out_run books.old.quoted.spec books.old.quoted.prices time_ms
         (record { events = books.old.quoted.events; full = false })) result books.new }
+    ensures done { OnOk result (worst books.new.quoted.spec books.new.quoted.prices
+        books.new.quoted.events ≡ None) }
 {
     let mut left = books.rule().len();
     while left > 0 {
         let Some(ticket) = worst(books) else {
             return Ok(());
         };
+        books.is_sound();
         close_position(books, time_ms, DealReason::StopOut, ticket)?;
         left -= 1;
     }
