@@ -91,8 +91,8 @@ impl<P: PositionRule + Drop> Desk<P> {
 
     /// A loud quote comes: its prices and its time stand from then on, and what it does to the account is
     /// done before an expert sees it: swap, expiry, what fires, stop-out (MetaTrader 5 Help, Types of Orders,
-    /// Stop Loss and Take Profit, Stop Out). `DealsExhausted` exactly where a deal of that would be the 50,001st;
-    /// what was done before stands. After `OutOfMemory` the desk is closed.
+    /// Stop Loss and Take Profit, Stop Out). `DealsExhausted` exactly where a deal of that would be the
+    /// 50,001st; what was done before stands. After `OutOfMemory` the desk is closed.
     #[tactic(auto, using(crate::proofs::Answered::desk_leaves, crate::proofs::Answered::few_taken, crate::proofs::Unticketed::effect_last))]
     pub fn quote(&mut self, quote: &Quote) -> Result<(), DeskFault>
         requires open { self.old.closed ≡ false }

@@ -19,4 +19,4 @@ returns g c =
     let b3 = c.fire_all-fired.new.books in
     effect_ends c.args.books.now c.accrue.new.books c.expire.new.books b3 c.stop_out.new.books c.args.quote.now c.fire_all-fired.result c.stop_out.result c.requires.whole
     (of_ok c.accrue.result _ (search rules) c.accrue.ensures.ok) (of_ok c.expire.result _ (search rules) c.expire.ensures.ok) (search rules) c.fire_all-fired.ensures
-    (subst (λ (z : ℤ). Runs b3 (stopped_out_run b3.quoted.spec b3.quoted.prices z (so_far b3)) c.stop_out.result c.stop_out.new.books) t c.stop_out.ensures)
+    (subst (λ (z : ℤ). Runs b3 (stopped_out_run b3.quoted.spec b3.quoted.prices z (so_far b3)) c.stop_out.result c.stop_out.new.books) t c.stop_out.ensures.runs)
