@@ -148,8 +148,8 @@ acts_end {X} adds b c rest whole done r e l =
 pub closing_like : (b c b' : Kept) (time_ms : ℤ) (why : DealReason) (t : ℕ) (r : Result (Unit {0}) DeskFault) → IsLike b c → Runs b (act (closing_of b.quoted.spec b.quoted.prices time_ms why t) (so_far b)) r b' → Runs b (act (closing_of c.quoted.spec c.quoted.prices time_ms why t) (so_far b)) r b'
 closing_like b c b' time_ms why t r l h =
     let same : act (closing_of b.quoted.spec b.quoted.prices time_ms why t) (so_far b) ≡ act (closing_of c.quoted.spec c.quoted.prices time_ms why t) (so_far b) =
-        ap (λ (s : AccountSpec). act (closing_of s b.quoted.prices time_ms why t) (so_far b)) l.spec
-        ∙ ap (λ (p : PriceList). act (closing_of c.quoted.spec p time_ms why t) (so_far b)) l.prices in
+    ap (λ (s : AccountSpec). act (closing_of s b.quoted.prices time_ms why t) (so_far b)) l.spec
+    ∙ ap (λ (p : PriceList). act (closing_of c.quoted.spec p time_ms why t) (so_far b)) l.prices in
     subst (λ (run : Run). Runs b run r b') same h
 
 -- the removals and then the closings are the whole end

@@ -61,7 +61,7 @@ effect_ends b b1 b2 b3 b4 quote x r w e f n k m = end_by b b2 b3 b4 quote r (beg
         let fired : Run = triggered_run b2.quoted.spec b2.quoted.prices quote (so_far b2) in
         let left : IsLike b3 (at_quote quote b) = after_like b2 b3 (at_quote quote b) fired k.1 h.like in
         let same : stopped_out_run b3.quoted.spec b3.quoted.prices quote.time_ms (so_far b3) ≡ effect b.quoted quote =
-            ap (λ (s : AccountSpec). stopped_out_run s b3.quoted.prices quote.time_ms (so_far b3)) left.spec
-            ∙ ap (λ (p : PriceList). stopped_out_run b.quoted.spec p quote.time_ms (so_far b3)) left.prices
-            ∙ ap (λ (r : Run). stopped_out_run b.quoted.spec (with_quote quote b.quoted).prices quote.time_ms r) (sym (run_left b2 b3 fired k.0 k.1) ∙ fired_is b b2 quote h) in
+        ap (λ (s : AccountSpec). stopped_out_run s b3.quoted.prices quote.time_ms (so_far b3)) left.spec
+        ∙ ap (λ (p : PriceList). stopped_out_run b.quoted.spec p quote.time_ms (so_far b3)) left.prices
+        ∙ ap (λ (r : Run). stopped_out_run b.quoted.spec (with_quote quote b.quoted).prices quote.time_ms r) (sym (run_left b2 b3 fired k.0 k.1) ∙ fired_is b b2 quote h) in
         subst (λ (run : Run). Runs (at_quote quote b) run r b4) same (runs_like b3 (at_quote quote b) (stopped_out_run b3.quoted.spec b3.quoted.prices quote.time_ms (so_far b3)) r b4 left m)
