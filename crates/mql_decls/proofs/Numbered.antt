@@ -16,4 +16,4 @@ one_more declares items n i found new all h e k done =
 pub all_done : {A : Type 0} (declares : ℕ → Item → List A) (items : List Item) (n : ℕ) (found all : List A)
     → length items ≤ n → found ++ numbered declares n (drop n items) ≡ all → found ≡ all
 all_done declares items n found all h done =
-    sym (append-nil found) ∙ sym (ap (λ l. found ++ numbered declares n l) (drop_all items n h)) ∙ done
+    sym (append-nil found) ∙ sym (ap (λ l. found ++ numbered declares n l) (drop_all n items h)) ∙ done

@@ -127,7 +127,7 @@ module _ (names : Names) (values : Values) (n : ℕ) (key : Name) where
   statements_done shared ss locals found all e done = sym (append-nil found) ∙ ap (λ xs. found ++ among (list_things shared locals xs)) (sym e) ∙ done
 
   -- the static variables of a statement: its own, and those of its parts
-  pub in_statement : (locals : List Name) (s : Statement)
+  in_statement : (locals : List Name) (s : Statement)
       → among (statement_things locals s) ≡ among (variables_things locals (statement_locals s)) ++ among (list_things (shares (statement_kind s)) locals (statement_parts s))
   in_statement locals s =
       let own = variables_things locals (statement_locals s) in
@@ -137,9 +137,32 @@ module _ (names : Names) (values : Values) (n : ℕ) (key : Name) where
       ∙ flat_map-append found_in own (inner ++ rest)
       ∙ ap (λ xs. among own ++ xs) (none_before inner rest (none_in_values locals (statement_values s)))
 
-  pub in_function : (f : Function)
+  in_function : (f : Function)
       → among (function_things f) ≡ among (variables_things [] (map param_variable f.params)) ++ among (list_things true (map variable_name (map param_variable f.params)) (body_parts f.body))
   in_function f =
       let own = variables_things [] (map param_variable f.params) in
       let rest = list_things true (map variable_name (map param_variable f.params)) (body_parts f.body) in
       none_before (result_things f.result) (own ++ rest) (none_in_result f.result) ∙ flat_map-append found_in own rest
+
+  pub whole_statement : (s : Statement) (locals ls : List Name) (found own all : List StaticForm) (vs : List Variable) (shared : Bool) (ss : List Statement)
+      → vs ≡ statement_locals s → shared ≡ shares (statement_kind s) → ls ≡ locals → ss ≡ statement_parts s
+      → own ≡ found ++ among (variables_things locals vs) → all ≡ own ++ among (list_things shared ls ss) → all ≡ found ++ among (statement_things locals s)
+  whole_statement s locals ls found own all vs shared ss e1 e2 e3 e4 h k =
+      k ∙ ap (λ xs. xs ++ among (list_things shared ls ss)) h
+      ∙ append_assoc found (among (variables_things locals vs)) (among (list_things shared ls ss))
+      ∙ ap (λ xs. found ++ (among (variables_things locals xs) ++ among (list_things shared ls ss))) e1
+      ∙ ap (λ b. found ++ (among (variables_things locals (statement_locals s)) ++ among (list_things b ls ss))) e2
+      ∙ ap (λ xs. found ++ (among (variables_things locals (statement_locals s)) ++ among (list_things (shares (statement_kind s)) xs ss))) e3
+      ∙ ap (λ xs. found ++ (among (variables_things locals (statement_locals s)) ++ among (list_things (shares (statement_kind s)) locals xs))) e4
+      ∙ ap (λ xs. found ++ xs) (sym (in_statement locals s))
+
+  pub whole_function : (f : Function) (locals : List Name) (found own all : List StaticForm) (qs : List Param) (ss : List Statement)
+      → qs ≡ f.params → locals ≡ map variable_name (map param_variable qs) → ss ≡ body_parts f.body
+      → own ≡ found ++ among (variables_things [] (map param_variable qs)) → all ≡ own ++ among (list_things true locals ss) → all ≡ found ++ among (function_things f)
+  whole_function f locals found own all qs ss e1 e2 e3 h k =
+      k ∙ ap (λ xs. xs ++ among (list_things true locals ss)) h
+      ∙ append_assoc found (among (variables_things [] (map param_variable qs))) (among (list_things true locals ss))
+      ∙ ap (λ xs. found ++ (among (variables_things [] (map param_variable qs)) ++ among (list_things true xs ss))) e2
+      ∙ ap (λ xs. found ++ (among (variables_things [] (map param_variable xs)) ++ among (list_things true (map variable_name (map param_variable xs)) ss))) e1
+      ∙ ap (λ xs. found ++ (among (variables_things [] (map param_variable f.params)) ++ among (list_things true (map variable_name (map param_variable f.params)) xs))) e3
+      ∙ ap (λ xs. found ++ xs) (sym (in_function f))

@@ -1,5 +1,5 @@
 //! Static variables of functions.
-ghost use Rattle.std.specs.Prelude.{◌≡◌, true, ◌++◌, map, IfOk};
+ghost use Rattle.std.specs.Prelude.{◌≡◌, true, [], ◌++◌, map, IfOk};
 ghost use Rattle.std.specs.List.{flat_map};
 ghost use Rattle.mql_names.specs.Maps.{meaning};
 ghost use Rattle.mql_names.specs.Types.{form_of};

@@ -11,7 +11,7 @@ use Rattle.mql_sizes.specs.Maps.{value_at}
 use Rattle.mql_sizes.proofs.Held.{from_place}
 use Rattle.mql_decls.specs.Declarations as spec
 use Rattle.mql_decls.specs.Makes.{finding}
-use Rattle.mql_decls.proofs.StaticThings.{name_more, names_done, behind_more, variable_more, statement_more, variables_done, statements_done, in_statement, in_function}
+use Rattle.mql_decls.proofs.StaticThings.{name_more, names_done, behind_more, variable_more, statement_more, variables_done, statements_done, whole_statement, whole_function}
 use Rattle.mql_decls.proofs.statics.+statics.Goals as goal
 
 pub with_each-loop-s-preserved : goal.with_each-loop-s-preserved
@@ -30,7 +30,7 @@ with_each-loop-s-preserved t c =
 pub with_each-returns : goal.with_each-returns
 with_each-returns t c =
     let f = c.args.finder.now in
-    let e = drop_all c.args.parts.now c.loop-s.s-index c.loop-s-test.false in (
+    let e = drop_all c.loop-s.s-index c.args.parts.now c.loop-s-test.false in (
       statements_done (meaning f.maker.now.names.now) (value_at f.maker.now.values.now) f.item f.key.now c.args.shared _ c.loop-s.inner c.loop-s.found _ e c.loop-s.invariant.0,
       ap (all_behind c.args.shared c.loop-s.inner) (sym e) ∙ c.loop-s.invariant.1,
     )
@@ -40,3 +40,17 @@ with_parts-returns t c = (
   c.in_ok-new.ensures.0,
   c.truncate.ensures ∙ ap (λ (n : ℕ). take n c.in_ok-new.behind) c.len-count.ensures ∙ ap (take _) c.in_ok-new.ensures.1 ∙ front_stays c.args.shared c.args.locals c.args.parts.now,
 )
+
+pub with_statement-returns : goal.with_statement-returns
+with_statement-returns t c =
+    let f = c.args.finder.now in
+    let s = c.args.s.now in
+    let e1 : c.as_slice.result.now ≡ statement_locals s = grind (arith, common_steps) in
+    let e2 : c.shares.result ≡ shares (statement_kind s) = grind (arith, common_steps) in
+    let e4 : c.as_slice-2.result.now ≡ statement_parts s = grind (arith, common_steps) in
+    let own = c.in_ok-own.ensures in
+    let all = c.in_ok-all.ensures in (
+      whole_statement (meaning f.maker.now.names.now) (value_at f.maker.now.values.now) f.item f.key.now s c.args.locals c.in_ok-own.locals c.args.found c.in_ok-own.own c.in_ok-all.all
+          c.as_slice.result.now c.shares.result c.as_slice-2.result.now e1 e2 own.1 e4 own.0 all.0,
+      all.1 ∙ own.1,
+    )

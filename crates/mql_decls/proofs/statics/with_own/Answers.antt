@@ -11,7 +11,7 @@ use Rattle.mql_sizes.specs.Maps.{value_at}
 use Rattle.mql_sizes.proofs.Held.{from_place}
 use Rattle.mql_decls.specs.Declarations as spec
 use Rattle.mql_decls.specs.Makes.{finding}
-use Rattle.mql_decls.proofs.StaticThings.{name_more, names_done, behind_more, variable_more, statement_more, variables_done, statements_done, in_statement, in_function}
+use Rattle.mql_decls.proofs.StaticThings.{name_more, names_done, behind_more, variable_more, statement_more, variables_done, statements_done, whole_statement, whole_function}
 use Rattle.mql_decls.proofs.statics.with_own.Goals as goal
 
 pub returns : goal.returns

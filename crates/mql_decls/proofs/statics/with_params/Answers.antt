@@ -11,7 +11,7 @@ use Rattle.mql_sizes.specs.Maps.{value_at}
 use Rattle.mql_sizes.proofs.Held.{from_place}
 use Rattle.mql_decls.specs.Declarations as spec
 use Rattle.mql_decls.specs.Makes.{finding}
-use Rattle.mql_decls.proofs.StaticThings.{name_more, names_done, behind_more, variable_more, statement_more, variables_done, statements_done, in_statement, in_function}
+use Rattle.mql_decls.proofs.StaticThings.{name_more, names_done, behind_more, variable_more, statement_more, variables_done, statements_done, whole_statement, whole_function}
 use Rattle.mql_decls.proofs.statics.with_params.Goals as goal
 
 pub loop-q-init : goal.loop-q-init
@@ -35,7 +35,7 @@ loop-q-preserved c =
 pub returns : goal.returns
 returns c =
     let f = c.args.finder.now in
-    let e = ap (map param_variable) (drop_all c.args.params.now c.loop-q.q-index c.loop-q-test.false) in (
+    let e = ap (map param_variable) (drop_all c.loop-q.q-index c.args.params.now c.loop-q-test.false) in (
       variables_done (meaning f.maker.now.names.now) (value_at f.maker.now.values.now) f.item f.key.now _ c.loop-q.locals c.loop-q.found _ e c.loop-q.invariant.0,
       names_done _ c.loop-q.locals _ e c.loop-q.invariant.1,
     )

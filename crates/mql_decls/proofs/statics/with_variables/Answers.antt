@@ -11,7 +11,7 @@ use Rattle.mql_sizes.specs.Maps.{value_at}
 use Rattle.mql_sizes.proofs.Held.{from_place}
 use Rattle.mql_decls.specs.Declarations as spec
 use Rattle.mql_decls.specs.Makes.{finding}
-use Rattle.mql_decls.proofs.StaticThings.{name_more, names_done, behind_more, variable_more, statement_more, variables_done, statements_done, in_statement, in_function}
+use Rattle.mql_decls.proofs.StaticThings.{name_more, names_done, behind_more, variable_more, statement_more, variables_done, statements_done, whole_statement, whole_function}
 use Rattle.mql_decls.proofs.statics.with_variables.Goals as goal
 
 pub loop-v-preserved : goal.loop-v-preserved
@@ -29,7 +29,7 @@ loop-v-preserved c =
 pub returns : goal.returns
 returns c =
     let f = c.args.finder.now in
-    let e = drop_all c.args.variables.now c.loop-v.v-index c.loop-v-test.false in (
+    let e = drop_all c.loop-v.v-index c.args.variables.now c.loop-v-test.false in (
       variables_done (meaning f.maker.now.names.now) (value_at f.maker.now.values.now) f.item f.key.now _ c.loop-v.inner c.loop-v.found _ e c.loop-v.invariant.0,
       names_done _ c.loop-v.inner _ e c.loop-v.invariant.1,
     )

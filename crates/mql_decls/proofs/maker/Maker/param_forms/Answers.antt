@@ -27,4 +27,4 @@ loop-q-preserved c =
 pub returns : goal.returns
 returns c =
     let m = c.args.self.now in
-    all_done (meaning m.names.now) (value_at m.values.now) _ c.loop-q.locals c.loop-q.found _ (drop_all c.args.params.now c.loop-q.q-index c.loop-q-test.false) c.loop-q.invariant
+    all_done (meaning m.names.now) (value_at m.values.now) _ c.loop-q.locals c.loop-q.found _ (drop_all c.loop-q.q-index c.args.params.now c.loop-q-test.false) c.loop-q.invariant
