@@ -169,9 +169,9 @@ child a t field asked what =
     structure 1 (codes "A") None (int 1) (codes "x")
     ∷ structure 2 (codes "B") (Some (record { access = a; of = named 2 (codes "A") })) t field
     ∷ function 3 (codes "f") None
-        (declares 4 (variable 4 words (named 4 (codes "B")) (codes "b") [] start.Zero)
-        ∷ statement 5 stating.Evaluation (node 6 what (node 7 (operation.Member asked) (name 7 (codes "b") ∷ []) ∷ number 6 2 ∷ []) ∷ []) []
-        ∷ [])
+    (declares 4 (variable 4 words (named 4 (codes "B")) (codes "b") [] start.Zero)
+    ∷ statement 5 stating.Evaluation (node 6 what (node 7 (operation.Member asked) (name 7 (codes "b") ∷ []) ∷ number 6 2 ∷ []) ∷ []) []
+    ∷ [])
     ∷ []
 
 inherits : judges (child None (int 2) (codes "y") (codes "x") (operation.Binary Remainder)) ≡ None

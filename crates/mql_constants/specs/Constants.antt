@@ -1,5 +1,6 @@
 -- Constants (MQL5 Reference, Language Basics: Data Types; Operations and Expressions): literals, names of
--- constants, and what operators, conversions and parentheses make of constants. Each part of a constant is one.
+-- constants, and what operators, conversions and parentheses make of constants. Each part of a constant is
+-- one.
 use Rattle.std.specs.Prelude.{ℕ, pos, Bool, not, ◌&&◌, ◌||◌, List, [], ◌∷◌, Option, Some, None}
 use Rattle.fx8.specs.declared.int_operator.IntOperator.TheVariants as op
 use Rattle.natives.specs.declared.types.ConstantValue.{ConstantValue}
