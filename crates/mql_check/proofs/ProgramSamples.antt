@@ -148,7 +148,6 @@ global_seen : judges (item.Variable (variable 1 words (double 1) (codes "i") [] 
 unfolding judges function variable double words given
 global_seen = refl
 
-<<<<<<< HEAD
 -- struct A { int x; }; struct B : A { int y; }; void f() { B b; b.x % 2; } is none; where A is taken privately it is 3;
 -- struct B : A { double x; } hides the integer, so b.x % 2 is 15; b.z is 2
 named : ℕ → List ℕ → TypeUse
@@ -192,7 +191,7 @@ own_hides = refl
 no_field : judges (child None (int 2) (codes "y") (codes "z") (operation.Binary Remainder)) ≡ Some (record { rule = 2; node = 7; first = 7 })
 unfolding judges child structure named function declares variable int words given
 no_field = refl
-=======
+
 -- int f(int a); int f(double a) { return 1; } void g() { f(1); }: the first is called and has no body; f(1.5) calls the second
 announces : ℕ → List ℕ → TypeUse → Body → Item
 announces n x of b =
@@ -231,4 +230,3 @@ no_body_called = refl
 other_called : misses (calling (real 5 (pos 150000000))) ≡ []
 unfolding misses calling announces returning function variable int double words given
 other_called = refl
->>>>>>> 7c6c5abd3f82cb608b8d728c1305a8c428e97e1d

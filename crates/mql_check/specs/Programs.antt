@@ -67,11 +67,7 @@ use Rattle.mql_scope.specs.declared.context.Enumeration.{Enumeration}
 use Rattle.mql_typed.specs.declared.info.Info.{Info}
 use Rattle.mql_typed.specs.declared.info.Standing.{Standing}
 use Rattle.mql_typed.specs.declared.info.Standing.TheVariants as stand
-<<<<<<< HEAD
-use Rattle.mql_check.specs.Contexts.{Text, Program, Context, behind, written, either}
-=======
-use Rattle.mql_scope.specs.Contexts.{Text, Program, Context, behind, written}
->>>>>>> 7c6c5abd3f82cb608b8d728c1305a8c428e97e1d
+use Rattle.mql_scope.specs.Contexts.{Text, Program, Context, behind, written, either}
 use Rattle.mql_typed.specs.Typed.{single, value_base, var_type}
 use Rattle.mql_calls.specs.Nodes.{passes}
 use Rattle.mql_scope.specs.Names.{stands_at}

@@ -27,15 +27,10 @@ use Rattle.mql_types.specs.Overloads.{choose}
 use Rattle.mql_scope.specs.declared.context.Field.{Field}
 use Rattle.mql_scope.specs.declared.context.Layout.{Layout}
 use Rattle.mql_typed.specs.declared.info.Info.{Info}
-<<<<<<< HEAD:crates/mql_check/specs/Rules.antt
-use Rattle.mql_check.specs.Contexts.{Text, Program, Context, either, written}
-use Rattle.mql_check.specs.Names.{Callee, Functions, Conversion, Supplied, Other, Unknown, name_info, callee}
-=======
-use Rattle.mql_scope.specs.Contexts.{Text, Program, Context, written}
+use Rattle.mql_scope.specs.Contexts.{Text, Program, Context, either, written}
 use Rattle.mql_scope.specs.declared.names.Callee.{Callee}
 use Rattle.mql_scope.specs.declared.names.Callee.TheVariants.{Functions, Conversion, Supplied, Other, Unknown}
 use Rattle.mql_scope.specs.Names.{name_info, callee}
->>>>>>> 7c6c5abd3f82cb608b8d728c1305a8c428e97e1d:crates/mql_expressions/specs/Rules.antt
 use Rattle.mql_typed.specs.Typed.{value_base}
 use Rattle.mql_typed.specs.Operations.{int_operator}
 use Rattle.mql_calls.specs.Nodes.{Node, Rule, passes, nth, ask, ask_base, ask_bases, some_part, is_void, is_whole_array, no_place, is_constant, is_of_input, told, arguments_of}
