@@ -1,4 +1,4 @@
--- The name EURUSD is that of a symbol, for the tests.
+-- The name EURUSD is that of a symbol.
 use Rattle.std.proofs.Common.{◌≡◌, ℕ, List, [], ◌∷◌, arith}
 use Rattle.std.proofs.lemmas.List.Elements.{All-cons}
 use Rattle.market_types.specs.Ranges.{IsSymbolName, IsNameCharacter}
