@@ -1,11 +1,10 @@
 -- The parts of a quote's effect make up the whole.
-use Rattle.std.proofs.Common.{◌≡◌, ◌∙◌, ℕ, suc, zero, ◌++◌, Bool, true, false, cond, List, [], ◌∷◌, Option, Some, None, Result, Ok, Err, ℤ, refl, ap, sym, subst}
+use Rattle.std.proofs.Common.{◌≡◌, ◌∙◌, ℕ, suc, zero, true, false, Some, None, Result, Ok, Err, ℤ, refl, ap, sym, subst}
 use Rattle.std.specs.Option.{option_map_or}
 use Rattle.std.specs.Prelude.{is_err}
 use Rattle.market_types.specs.declared.quote.Quote.{Quote}
 use Rattle.account.specs.declared.account_spec.AccountSpec.{AccountSpec}
 use Rattle.account.specs.declared.deal.DealReason.TheVariants as reason
-use Rattle.account.specs.declared.event.Event.{Event}
 use Rattle.account.specs.Orders.{orders_in_force}
 use Rattle.account.specs.StopOut.{PriceList, worst}
 use Rattle.desk.specs.declared.fault.DeskFault.{DeskFault}
@@ -13,7 +12,6 @@ use Rattle.desk.specs.declared.fault.DeskFault.TheVariants as desk_fault
 use Rattle.desk.specs.Books.{Kept, gained}
 use Rattle.desk.specs.Effect.{Run, act, closing_of, swaps, expiries, swapped_run, expired_run, triggered_run, stopped_out, stopped_out_run, effect, with_quote}
 use Rattle.desk.specs.Runs.{Runs, after_run}
-use Rattle.desk.specs.State.{Quoted}
 use Rattle.desk.proofs.Ended.{IsLike, so_far, run_left, runs_like, act_full, left_ok, after_like}
 
 stopped_full : (spec : AccountSpec) (prices : PriceList) (time_ms : ℤ) (n : ℕ) (run : Run) → run.full ≡ true → stopped_out spec prices time_ms n run ≡ run
@@ -61,7 +59,7 @@ effect_ends b b1 b2 b3 b4 quote x r w e f n k m = end_by b b2 b3 b4 quote r (beg
         let fired : Run = triggered_run b2.quoted.spec b2.quoted.prices quote (so_far b2) in
         let left : IsLike b3 (at_quote quote b) = after_like b2 b3 (at_quote quote b) fired k.1 h.like in
         let same : stopped_out_run b3.quoted.spec b3.quoted.prices quote.time_ms (so_far b3) ≡ effect b.quoted quote =
-            ap (λ (s : AccountSpec). stopped_out_run s b3.quoted.prices quote.time_ms (so_far b3)) left.spec
-            ∙ ap (λ (p : PriceList). stopped_out_run b.quoted.spec p quote.time_ms (so_far b3)) left.prices
-            ∙ ap (λ (r : Run). stopped_out_run b.quoted.spec (with_quote quote b.quoted).prices quote.time_ms r) (sym (run_left b2 b3 fired k.0 k.1) ∙ fired_is b b2 quote h) in
+        ap (λ (s : AccountSpec). stopped_out_run s b3.quoted.prices quote.time_ms (so_far b3)) left.spec
+        ∙ ap (λ (p : PriceList). stopped_out_run b.quoted.spec p quote.time_ms (so_far b3)) left.prices
+        ∙ ap (λ (r : Run). stopped_out_run b.quoted.spec (with_quote quote b.quoted).prices quote.time_ms r) (sym (run_left b2 b3 fired k.0 k.1) ∙ fired_is b b2 quote h) in
         subst (λ (run : Run). Runs (at_quote quote b) run r b4) same (runs_like b3 (at_quote quote b) (stopped_out_run b3.quoted.spec b3.quoted.prices quote.time_ms (so_far b3)) r b4 left m)

@@ -23,10 +23,7 @@ fn second_of(time_ms: i64) -> i64
 }
 
 /// The tickets of the orders whose time is over at a quote.
-fn expired<P: PositionRule + Drop>(
-    books: &Books<P>,
-    quote: &Quote,
-) -> Result<Tickets, OutOfMemory>
+fn expired<P: PositionRule + Drop>(books: &Books<P>, quote: &Quote) -> Result<Tickets, OutOfMemory>
     requires { books.now.broken ≡ false }
     ensures { IfOk result (λ list. list.items
         ≡ expired_orders (second_of quote.now.time_ms) (orders_in_force books.now.quoted.events)) }
