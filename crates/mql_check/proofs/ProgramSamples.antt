@@ -21,6 +21,7 @@ use Rattle.mql_syntax.specs.declared.declaration.Dimension.{Dimension}
 use Rattle.mql_syntax.specs.declared.declaration.Dimension.TheVariants.{Open, Size}
 use Rattle.mql_syntax.specs.declared.declaration.Start.{Start}
 use Rattle.mql_syntax.specs.declared.declaration.Start.TheVariants as start
+use Rattle.mql_syntax.specs.declared.declaration.Body.{Body}
 use Rattle.mql_syntax.specs.declared.declaration.Body.TheVariants as body
 use Rattle.mql_syntax.specs.declared.declaration.Function.{Function}
 use Rattle.mql_syntax.specs.declared.declaration.Item.{Item}
@@ -30,15 +31,16 @@ use Rattle.mql_mean.specs.declared.value.Value.TheBlock as ConstantRow
 use Rattle.mql_mean.specs.declared.value.Value.TheViews as ConstantView
 use Rattle.mql_names.specs.declared.fault.Broken.{Broken}
 use Rattle.mql_names.specs.Types as Types
+use Rattle.mql_names.specs.Events as Events
 use Rattle.mql_types.specs.Overloads as Overloads
-use Rattle.mql_check.specs.Rules as Rules
-use Rattle.mql_check.specs.Made as Made
-use Rattle.mql_check.specs.Statements as Statements
-use Rattle.mql_check.specs.Programs.{Given, program_of, told_broken}
-use Rattle.mql_check.proofs.Words.{at, name, number, truth, node, statement, constant_of}
+use Rattle.mql_expressions.specs.Rules as Rules
+use Rattle.mql_expressions.specs.Made as Made
+use Rattle.mql_statements.specs.Statements as Statements
+use Rattle.mql_check.specs.Programs.{Given, program_of, told_broken, breaks_bodies}
+use Rattle.mql_check.proofs.Words.{at, name, number, real, truth, node, statement, constant_of}
 
 given : Given
-given = record { constant = constant_of; as_type = λ b v. Some v; line = λ p. p.first; file = λ p. [] }
+given = record { constant = λ ks. constant_of; as_type = λ b v. Some v; line = λ p. p.first; file = λ p. [] }
 
 words : Words
 words = record { is_input = false; is_static_input = false; is_static = false; is_const = false; is_virtual = false }
@@ -75,7 +77,7 @@ declares n v = stated.Node (at n) stating.Declaration (v ∷ []) [] []
 
 -- what is told of a program
 unfoldable judges : List Item → Option Broken
-unfolding program_of Types.word_sort Types.own_sort Types.named_sort Types.type_key ReservedWords.reserved_word ReservedWords.word_spelling Rules.lowest Made.tells Overloads.choose Statements.lowest Integers.wrapped ConstantRow.shown-the_row-Value-0 ConstantView.out-Value TypeRow.hidden-the_row-TypeUse-0 ValueRow.hidden-the_row-Value-0 StatementRow.hidden-the_row-Statement-0 denote.Hole.Carrier.hidden denote.Hole.Carrier.shown denote.Hole.Carrier.out
+unfolding program_of Types.word_sort Types.own_sort Types.named_sort Types.type_key ReservedWords.reserved_word ReservedWords.word_spelling Rules.lowest Made.tells Made.uses Overloads.choose Statements.lowest Integers.wrapped ConstantRow.shown-the_row-Value-0 ConstantView.out-Value TypeRow.hidden-the_row-TypeUse-0 ValueRow.hidden-the_row-Value-0 StatementRow.hidden-the_row-Statement-0 denote.Hole.Carrier.hidden denote.Hole.Carrier.shown denote.Hole.Carrier.out
 judges items = told_broken given items
 
 -- int f() {}: 40 at the function; int f() { return 1; } is none
@@ -138,3 +140,42 @@ global_seen : judges (item.Variable (variable 1 words (double 1) (codes "i") [] 
     ≡ Some (record { rule = 15; node = 5; first = 5 })
 unfolding judges function variable double words given
 global_seen = refl
+
+-- int f(int a); int f(double a) { return 1; } void g() { f(1); }: the first is called and has no body; f(1.5) calls the second
+announces : ℕ → List ℕ → TypeUse → Body → Item
+announces n x of b =
+    item.Function (record {
+      place = at n;
+      nodes = 1;
+      types = [];
+      words = words;
+      result = Some (int n);
+      scope = None;
+      destructor = false;
+      name = x;
+      params = record { reference = false; variable = variable n words of (codes "a") [] start.Zero } ∷ [];
+      bases = [];
+      overrides = false;
+      body = b;
+    })
+
+returning : Body
+returning = body.Block (statement 2 stating.Block [] (statement 2 stating.Return (number 2 1 ∷ []) [] ∷ []))
+
+calling : Value → List Item
+calling v =
+    announces 1 (codes "f") (int 1) body.Declared ∷ announces 2 (codes "f") (double 2) returning ∷
+    function 3 (codes "g") None (statement 4 stating.Evaluation (node 5 operation.Call (name 5 (codes "f") ∷ v ∷ []) ∷ []) [] ∷ []) ∷ []
+
+-- what breaks the rule on bodies
+unfoldable misses : List Item → List Broken
+unfolding program_of breaks_bodies Types.word_sort Types.own_sort Types.named_sort Types.type_key ReservedWords.reserved_word ReservedWords.word_spelling Rules.lowest Made.tells Made.uses Overloads.choose Statements.lowest Integers.wrapped ConstantRow.shown-the_row-Value-0 ConstantView.out-Value TypeRow.hidden-the_row-TypeUse-0 ValueRow.hidden-the_row-Value-0 StatementRow.hidden-the_row-Statement-0 denote.Hole.Carrier.hidden denote.Hole.Carrier.shown denote.Hole.Carrier.out Events.event_of Events.event_named Events.event_name Types.param_key
+misses items = breaks_bodies given (record { place = at 0; nodes = 1; items = items })
+
+no_body_called : misses (calling (number 5 1)) ≡ record { rule = 9; node = 1; first = 1 } ∷ []
+unfolding misses calling announces returning function variable int double words given
+no_body_called = refl
+
+other_called : misses (calling (real 5 (pos 150000000))) ≡ []
+unfolding misses calling announces returning function variable int double words given
+other_called = refl

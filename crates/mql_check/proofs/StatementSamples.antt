@@ -11,7 +11,7 @@ use Rattle.mql_syntax.specs.declared.kind.StatementKind.TheVariants as stating
 use Rattle.mql_syntax.specs.declared.statement.Statement.{Statement}
 use Rattle.mql_syntax.specs.declared.statement.Statement.TheBlock as StatementRow
 use Rattle.mql_syntax.specs.declared.value.Value.TheBlock as ValueRow
-use Rattle.mql_check.specs.Closing.{closes}
+use Rattle.mql_statements.specs.Closing.{closes}
 use Rattle.mql_check.proofs.Words.{name, number, truth, statement, read, tells, breaks}
 
 -- while(true) {} closes; with a `break` it does not; one with a `break` in a loop in it does

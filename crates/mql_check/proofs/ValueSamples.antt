@@ -14,12 +14,12 @@ use Rattle.mql_syntax.specs.declared.value.Operation.TheVariants as operation
 use Rattle.mql_syntax.specs.declared.value.Value.{Value}
 use Rattle.mql_types.specs.declared.types.Base.TheVariants as base
 use Rattle.mql_typed.specs.Typed.{a_value, nothing}
-use Rattle.mql_check.specs.Values.{Found}
+use Rattle.mql_expressions.specs.Values.{Found}
 use Rattle.mql_check.proofs.Words.{name, number, real, truth, node, of, single, line, parameter, function, read, finds, breaks}
 
 -- i / i is of int
 divides : finds [] (node 1 (operation.Binary binary.Divide) (name 1 (codes "i") ∷ name 1 (codes "i") ∷ []))
-    ≡ record { info = Some (a_value (of kind.Int) [] (e.Apply (o.Binary op.Divide (sort.Number kind.Int)) (read 0 ∷ read 0 ∷ []))); broken = [] }
+    ≡ record { info = Some (a_value (of kind.Int) [] (e.Apply (o.Binary op.Divide (sort.Number kind.Int)) (read 0 ∷ read 0 ∷ []))); broken = []; used = [] }
 unfolding finds
 divides = refl
 
@@ -29,6 +29,7 @@ compares : finds [] (node 1 (operation.Binary binary.Less) (name 1 (codes "u") �
       info = Some (a_value (of kind.Bool) [] (e.Apply (o.Binary op.Less (sort.Number kind.Uint))
           (read 1 ∷ e.Apply (o.Convert (sort.Number kind.Uint)) (read 0 ∷ []) ∷ [])));
       broken = [];
+      used = [];
     }
 unfolding finds
 compares = refl
@@ -57,6 +58,7 @@ assigns : finds [] (node 1 operation.Assign (name 1 (codes "d") ∷ name 1 (code
       info = Some (a_value (base.Simple simple.Double) [] (e.Apply o.Keep
           (e.Apply (o.Convert sort.Double) (read 0 ∷ []) ∷ e.Apply (o.Local 3) [] ∷ [])));
       broken = [];
+      used = [];
     }
 unfolding finds
 assigns = refl

@@ -29,17 +29,17 @@ use Rattle.mql_types.specs.declared.dimensions.Dimensions.TheVariants as dims
 use Rattle.mql_types.specs.declared.overloads.Parameter.{Parameter}
 use Rattle.mql_types.specs.declared.overloads.Signature.{Signature}
 use Rattle.mql_types.specs.Overloads as Overloads
-use Rattle.mql_check.specs.declared.context.Known.{Known}
-use Rattle.mql_check.specs.declared.context.Storage.TheVariants as storage
+use Rattle.mql_scope.specs.declared.context.Known.{Known}
+use Rattle.mql_scope.specs.declared.context.Storage.TheVariants as storage
 use Rattle.mql_typed.specs.declared.info.Info.{Info}
 use Rattle.mql_typed.specs.declared.info.Standing.{Standing}
 use Rattle.mql_typed.specs.declared.info.Standing.TheVariants as stand
-use Rattle.mql_check.specs.Contexts.{Text, Program, Context}
-use Rattle.mql_check.specs.Values.{Found, found}
-use Rattle.mql_check.specs.Statements.{Told, told}
-use Rattle.mql_check.specs.Rules as Rules
-use Rattle.mql_check.specs.Made as Made
-use Rattle.mql_check.specs.Statements as Statements
+use Rattle.mql_scope.specs.Contexts.{Text, Program, Context}
+use Rattle.mql_expressions.specs.Values.{Found, found}
+use Rattle.mql_statements.specs.Statements.{Told, told}
+use Rattle.mql_expressions.specs.Rules as Rules
+use Rattle.mql_expressions.specs.Made as Made
+use Rattle.mql_statements.specs.Statements as Statements
 use Rattle.mql_syntax.specs.declared.value.Value.TheBlock as ValueRow
 use Rattle.mql_syntax.specs.declared.statement.Statement.TheBlock as StatementRow
 use Rattle.mql_mean.specs.declared.value.Value.TheBlock as ConstantRow
@@ -106,7 +106,7 @@ program fs =
       globals = [];
       functions = fs;
       default = λ n k. None;
-      constant = constant_of;
+      constant = λ ks. constant_of;
       line = λ p. p.first;
       file = λ p. [];
     }
@@ -135,11 +135,11 @@ read n = e.Apply o.Read (e.Apply (o.Local n) [] ∷ [])
 
 -- what is told of an expression and of a statement
 unfoldable pub finds : List Signature → Value → Found
-unfolding Rules.lowest Made.tells Overloads.choose ValueRow.hidden-the_row-Value-0 denote.Hole.Carrier.hidden
+unfolding Rules.lowest Made.tells Made.uses Overloads.choose ValueRow.hidden-the_row-Value-0 denote.Hole.Carrier.hidden
 finds fs v = found (context fs) v
 
 unfoldable pub tells : Statement → Told
-unfolding Rules.lowest Made.tells Overloads.choose Statements.lowest Integers.wrapped ConstantRow.shown-the_row-Value-0 ConstantView.out-Value ValueRow.hidden-the_row-Value-0 StatementRow.hidden-the_row-Statement-0 denote.Hole.Carrier.hidden denote.Hole.Carrier.shown denote.Hole.Carrier.out
+unfolding Rules.lowest Made.tells Made.uses Overloads.choose Statements.lowest Integers.wrapped ConstantRow.shown-the_row-Value-0 ConstantView.out-Value ValueRow.hidden-the_row-Value-0 StatementRow.hidden-the_row-Statement-0 denote.Hole.Carrier.hidden denote.Hole.Carrier.shown denote.Hole.Carrier.out
 tells s = told (context []) s
 
 -- a rule that is broken at node n

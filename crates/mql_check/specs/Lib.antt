@@ -1,12 +1,1 @@
-pub mod Contexts
-pub mod Names
-pub mod Nodes
-pub mod Calls
-pub mod NativeCalls
-pub mod Rules
-pub mod Made
-pub mod Values
-pub mod Initialisers
-pub mod Closing
-pub mod Statements
 pub mod Programs

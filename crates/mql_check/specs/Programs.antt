@@ -47,8 +47,8 @@ use Rattle.mql_syntax.specs.declared.declaration.Syntax.{Syntax}
 use Rattle.mql_names.specs.declared.fault.Broken.{Broken}
 use Rattle.mql_names.specs.declared.event.Event.{Event}
 use Rattle.mql_names.specs.declared.event.Event.TheVariants as event
-use Rattle.mql_names.specs.Faults.{told}
-use Rattle.mql_names.specs.Events.{event_name}
+use Rattle.mql_names.specs.Faults.{told, break_if}
+use Rattle.mql_names.specs.Events.{event_name, event_of}
 use Rattle.mql_names.specs.Meanings.{names_of}
 use Rattle.mql_names.specs.Things.{body_parts}
 use Rattle.mql_names.specs.Types.{Names, param_keys, is_defined}
@@ -58,28 +58,28 @@ use Rattle.mql_types.specs.declared.types.DataType.{DataType}
 use Rattle.mql_types.specs.declared.overloads.Parameter.{Parameter}
 use Rattle.mql_types.specs.declared.overloads.Signature.{Signature}
 use Rattle.mql_types.specs.Types.{is_array}
-use Rattle.mql_check.specs.declared.context.Known.{Known}
-use Rattle.mql_check.specs.declared.context.Storage.TheVariants as storage
-use Rattle.mql_check.specs.declared.context.Field.{Field}
-use Rattle.mql_check.specs.declared.context.Layout.{Layout}
-use Rattle.mql_check.specs.declared.context.Enumeration.{Enumeration}
+use Rattle.mql_scope.specs.declared.context.Known.{Known}
+use Rattle.mql_scope.specs.declared.context.Storage.TheVariants as storage
+use Rattle.mql_scope.specs.declared.context.Field.{Field}
+use Rattle.mql_scope.specs.declared.context.Layout.{Layout}
+use Rattle.mql_scope.specs.declared.context.Enumeration.{Enumeration}
 use Rattle.mql_typed.specs.declared.info.Info.{Info}
 use Rattle.mql_typed.specs.declared.info.Standing.{Standing}
 use Rattle.mql_typed.specs.declared.info.Standing.TheVariants as stand
-use Rattle.mql_check.specs.Contexts.{Text, Program, Context, behind, written}
+use Rattle.mql_scope.specs.Contexts.{Text, Program, Context, behind, written}
 use Rattle.mql_typed.specs.Typed.{single, value_base, var_type}
-use Rattle.mql_check.specs.Nodes.{passes}
-use Rattle.mql_check.specs.Names.{stands_at}
-use Rattle.mql_check.specs.Rules.{no_fit}
-use Rattle.mql_check.specs.Values.{found, broken_at, innermost}
-use Rattle.mql_check.specs.Initialisers.{Begun, started, start_constant}
-use Rattle.mql_check.specs.Closing.{closes}
-use Rattle.mql_check.specs.Statements.{Told, Static, declared_standing, variable_type, evaluated, told_all}
+use Rattle.mql_calls.specs.Nodes.{passes}
+use Rattle.mql_scope.specs.Names.{stands_at}
+use Rattle.mql_expressions.specs.Rules.{no_fit}
+use Rattle.mql_expressions.specs.Values.{found, broken_at, innermost}
+use Rattle.mql_statements.specs.Initialisers.{Begun, started, start_constant}
+use Rattle.mql_statements.specs.Closing.{closes}
+use Rattle.mql_statements.specs.Statements.{Told, Static, declared_standing, variable_type, evaluated, dimensions_used, told_all}
 
 -- What typing takes from elsewhere: the constant that an expression is, if it is one, by what the names of the
 -- program mean and the members of its enumerations; a constant taken into a type; the line and the file of a node.
 pub record Given : Type 0 where
-  pub constant : syntax.Value → Option Value
+  pub constant : List Known → syntax.Value → Option Value
   pub as_type : Base → Value → Option Value
   pub line : Place → ℕ
   pub file : Place → Text
@@ -141,7 +141,7 @@ field_with a v None = []
 field_with a v (Some t) = record { name = v.name; of = t; accessible = is_public a } ∷ []
 
 abbrev pub field : Program → class_member.Member → List Field
-field p (members.Variable a v) = field_with a v (variable_type p v)
+field p (members.Variable a v) = field_with a v (variable_type p [] v)
 field p (members.Function a f) = []
 
 abbrev pub layout : Program → Item → List Layout
@@ -153,7 +153,7 @@ layout p _ = []
 abbrev pub numbered : Program → Option syntax.Value → ℤ → ℤ
 numbered p None next = next
 numbered p (Some v) next =
-    elim (p.constant v) [ None ↦ next | Some x ↦ elim (number_of x) [ None ↦ next | Some n ↦ n ] ]
+    elim (p.constant [] v) [ None ↦ next | Some x ↦ elim (number_of x) [ None ↦ next | Some n ↦ n ] ]
 
 abbrev pub member : Text → ℤ → Member
 member x n = record { name = x; value = wrapped int_kind.Int n }
@@ -192,7 +192,7 @@ type_or_int None = int_type
 type_or_int (Some t) = t
 
 abbrev pub global_type : Program → Variable → DataType
-global_type p v = type_or_int (variable_type p v)
+global_type p v = type_or_int (variable_type p [] v)
 
 abbrev pub globals_from : Program → ℕ → List Variable → List Known
 globals_from p n [] = []
@@ -258,15 +258,53 @@ signatures_from p announced n (f ∷ fs) =
 
 -- the constant that a default is
 abbrev pub constant_start : Program → Start → Option Value
-constant_start p (start.Value v) = p.constant v
+constant_start p (start.Value v) = p.constant [] v
 constant_start p _ = None
 
-abbrev pub default_of : Program → List Function → List Function → ℕ → ℕ → Option Value
-default_of p announced functions n k =
+-- a constant taken into a type; none that typing accepts has no value there
+abbrev pub zero_value : Base → Value
+zero_value (base.Simple (simple.Integer k)) = value.Num k (pos 0)
+zero_value (base.Simple simple.Double) = value.Dbl (pos 0)
+zero_value (base.Simple simple.String) = value.Str []
+zero_value _ = value.Num int_kind.Int (pos 0)
+
+abbrev pub as_type_or_zero : Given → Base → Value → Value
+as_type_or_zero g b x = elim (g.as_type b x) [ None ↦ zero_value b | Some y ↦ y ]
+
+abbrev pub default_value : Given → Program → Option Param → Start → Option Value
+default_value g p None s = None
+default_value g p (Some q) s =
+    option_map (as_type_or_zero g (global_type p q.variable).base) (constant_start p s)
+
+abbrev pub default_of : Given → Program → List Function → List Function → ℕ → ℕ → Option Value
+default_of g p announced functions n k =
     elim (slice_get functions n) [
       | None ↦ None
-      | Some f ↦ constant_start p (default_start p.names announced f k)
+      | Some f ↦ default_value g p (slice_get f.params k) (default_start p.names announced f k)
     ]
+
+-- functions that are announced and have no body, each once; calls may choose them, and then a rule of
+-- declarations is broken
+abbrev pub stands_among : Names → Function → List Function → Bool
+stands_among names f [] = false
+stands_among names f (g ∷ gs) = is_one_function names f g || stands_among names f gs
+
+abbrev pub without_body : Names → List Function → List Function → List Function
+without_body names known [] = []
+without_body names known (f ∷ fs) =
+    if stands_among names f known then without_body names known fs
+    else f ∷ without_body names (known ++ f ∷ []) fs
+
+-- all functions that calls may choose: those with a body come first
+abbrev pub defined_functions : List Item → List Function
+defined_functions items = flat_map functions_in items
+
+abbrev pub bodiless_functions : Names → List Item → List Function
+bodiless_functions names items =
+    without_body names (defined_functions items) (flat_map announced_in items)
+
+abbrev pub all_functions : Names → List Item → List Function
+all_functions names items = defined_functions items ++ bodiless_functions names items
 
 -- what is known of a program
 abbrev pub with_types : List Item → Program → Program
@@ -276,18 +314,18 @@ with_types items p =
       enumerations = flat_map (enumeration p) items;
     }
 
-abbrev pub with_things : List Item → Program → Program
-with_things items p =
-    let functions = flat_map functions_in items in
+abbrev pub with_things : Given → List Item → Program → Program
+with_things g items p =
+    let functions = all_functions p.names items in
     let announced = flat_map announced_in items in
     record p {
       globals = globals_from p 0 (flat_map variables_in items);
       functions = signatures_from p announced 0 functions;
-      default = default_of p announced functions;
+      default = default_of g p announced functions;
     }
 
 unfoldable pub program_of : Given → List Item → Program
-program_of g items = with_things items (with_types items (of_types g items))
+program_of g items = with_things g items (with_types items (of_types g items))
 
 -- where an expression outside functions stands
 abbrev pub outside : Program → ℕ → ℕ → Context
@@ -310,12 +348,12 @@ is_simple_type _ = true
 
 abbrev pub no_input : Program → Variable → DataType → Bool
 no_input p v t =
-    is_input v && (not (start_constant p v.start) || (is_array t.dimensions || not (is_simple_type t.base)))
+    is_input v && (not (start_constant p [] v.start) || (is_array t.dimensions || not (is_simple_type t.base)))
 
 -- 23 a variable of `void`
 abbrev pub global_rule : Program → Variable → Option ℕ
 global_rule p v =
-    elim (variable_type p v) [
+    elim (variable_type p [] v) [
       | None ↦ Some 23
       | Some t ↦ if no_input p v t then Some 36 else None
     ]
@@ -350,6 +388,7 @@ pub record Beginning : Type 0 where
   pub steps : List statement.Statement
   pub kept : List VarType
   pub broken : List Owned
+  pub used : List ℕ
 
 abbrev pub owned : Variable → List Broken → Owned
 owned v bs = record { place = v.place; broken = bs }
@@ -362,7 +401,7 @@ global_begun p next n v =
     started (outside p next 0) v.place (stands_at (storage.Global n)) (global_type p v) v.start
 
 abbrev pub globals_begin : Program → ℕ → ℕ → List Variable → Beginning
-globals_begin p next n [] = record { steps = []; kept = []; broken = [] }
+globals_begin p next n [] = record { steps = []; kept = []; broken = []; used = [] }
 globals_begin p next n (v ∷ vs) =
     let b = global_begun p next n v in
     let rest = globals_begin p (next + length b.kept) (n + 1) vs in
@@ -371,6 +410,7 @@ globals_begin p next n (v ∷ vs) =
       kept = b.kept ++ rest.kept;
       broken = owned v (dimensions_broken p v ++ (b.broken ++ broken_at v.place (global_rule p v)))
           ∷ rest.broken;
+      used = dimensions_used (outside p 0 0) v ++ (b.used ++ rest.used);
     }
 
 -- parameters are the first locals
@@ -404,12 +444,19 @@ default_rule p q = elim (q.variable.start) [
         if passes (λ (i : Info). passes (no_fit (global_type p q.variable).base) (value_base i))
         ((found (outside p 0 0) v).info)
         then Some 13
-        else if is_none (p.constant v) then Some 36
+        else if is_none (p.constant [] v) then Some 36
         else None
 
 abbrev pub start_broken : Program → Start → List Broken
 start_broken p (start.Value v) = (found (outside p 0 0) v).broken
 start_broken p _ = []
+
+abbrev pub start_used : Program → Start → List ℕ
+start_used p (start.Value v) = (found (outside p 0 0) v).used
+start_used p _ = []
+
+abbrev pub param_used : Program → Param → List ℕ
+param_used p q = dimensions_used (outside p 0 0) q.variable ++ start_used p q.variable.start
 
 abbrev pub param_broken : Program → Param → List Broken
 param_broken p q =
@@ -467,9 +514,10 @@ pub record Bodies : Type 0 where
   pub functions : List typed.Function
   pub statics : List Static
   pub broken : List Broken
+  pub used : List ℕ
 
 abbrev pub bodies : Program → ℕ → List Function → Bodies
-bodies p statics [] = record { functions = []; statics = []; broken = [] }
+bodies p statics [] = record { functions = []; statics = []; broken = []; used = [] }
 bodies p statics (f ∷ fs) =
     let t = body_told p statics f in
     let rest = bodies p (statics + length t.statics) fs in
@@ -477,11 +525,12 @@ bodies p statics (f ∷ fs) =
       functions = typed_function p f t ∷ rest.functions;
       statics = t.statics ++ rest.statics;
       broken = function_broken p f t ++ rest.broken;
+      used = flat_map (param_used p) f.params ++ (t.used ++ rest.used);
     }
 
 -- what is broken in enumerations and structures: 36 a member's value is not constant
 abbrev pub enumerator_rule : Program → syntax.Value → Option ℕ
-enumerator_rule p v = if is_none (p.constant v) then Some 36 else None
+enumerator_rule p v = if is_none (p.constant [] v) then Some 36 else None
 
 abbrev pub enumerator_broken : Program → Place → Enumerator → List Broken
 enumerator_broken p place e =
@@ -497,23 +546,19 @@ member_broken p (members.Function a f) = []
 abbrev pub members_broken : List Owned → List Broken
 members_broken os = by_place os os
 
+-- the parameters of a function that is announced
+abbrev pub announced_broken : Program → Function → List Broken
+announced_broken p f = innermost f.place (flat_map (param_broken p) f.params)
+
 abbrev pub item_broken : Program → Item → List Broken
 item_broken p (item.Enumeration e) = innermost e.place (flat_map (enumerator_broken p e.place) e.values)
 item_broken p (item.Class c) = members_broken (flat_map (member_broken p) c.members)
+item_broken p (item.Function f) = if is_defined f.body then [] else announced_broken p f
 item_broken p _ = []
 
 -- inputs
-abbrev pub zero_value : Base → Value
-zero_value (base.Simple (simple.Integer k)) = value.Num k (pos 0)
-zero_value (base.Simple simple.Double) = value.Dbl (pos 0)
-zero_value (base.Simple simple.String) = value.Str []
-zero_value _ = value.Num int_kind.Int (pos 0)
-
-abbrev pub as_type_or_zero : Given → Base → Value → Value
-as_type_or_zero g b x = elim (g.as_type b x) [ None ↦ zero_value b | Some y ↦ y ]
-
 abbrev pub start_value : Given → Base → Start → Value
-start_value g b (start.Value v) = elim (g.constant v) [ None ↦ zero_value b | Some x ↦ as_type_or_zero g b x ]
+start_value g b (start.Value v) = elim (g.constant [] v) [ None ↦ zero_value b | Some x ↦ as_type_or_zero g b x ]
 start_value g b _ = zero_value b
 
 abbrev pub members_of : Program → Base → List Member
@@ -566,16 +611,16 @@ number_of_name x (f ∷ fs) = if bytes_eq f.name x then Some f.number else numbe
 abbrev pub event_function : Program → Event → Option ℕ
 event_function p e = number_of_name (event_name e) p.functions
 
-abbrev pub entries : Program → Entries
-entries p =
+abbrev pub entries : Program → ℕ → Entries
+entries p count =
     record {
-      start = Some (length p.functions);
+      start = Some count;
       init = event_function p event.Init;
       tick = event_function p event.Tick;
       trade = event_function p event.Trade;
       tester = event_function p event.Tester;
       deinit = event_function p event.Deinit;
-      stop = Some (length p.functions + 1);
+      stop = Some (count + 1);
     }
 
 abbrev pub checked : Given → Program → List Variable → Beginning → Bodies → Checked
@@ -586,7 +631,7 @@ checked g p vs b fs =
           ++ own_function b.kept (b.steps ++ flat_map static_steps fs.statics) ∷ own_function [] [] ∷ [];
       globals = map known_type p.globals ++ map static_type fs.statics;
       inputs = inputs_from g p 0 vs;
-      entries = entries p;
+      entries = entries p (length fs.functions);
     }
 
 -- all rules that may be told
@@ -608,6 +653,46 @@ judged (Some e) x = Err e
 
 abbrev pub typed_program : Given → Program → List Variable → List Function → Checked
 typed_program g p vs fs = checked g p vs (globals_begin p 0 0 vs) (bodies p (length vs) fs)
+
+-- the functions that are used: those that calls choose, wherever they stand
+abbrev pub enumerator_used : Program → Enumerator → List ℕ
+enumerator_used p e = elim (e.value) [ None ↦ [] | Some v ↦ (found (outside p 0 0) v).used ]
+
+abbrev pub member_used : Program → class_member.Member → List ℕ
+member_used p (members.Variable a v) = dimensions_used (outside p 0 0) v
+member_used p (members.Function a f) = flat_map (param_used p) f.params
+
+abbrev pub item_used : Program → Item → List ℕ
+item_used p (item.Enumeration e) = flat_map (enumerator_used p) e.values
+item_used p (item.Class c) = flat_map (member_used p) c.members
+item_used p (item.Function f) = if is_defined f.body then [] else flat_map (param_used p) f.params
+item_used p _ = []
+
+abbrev pub all_used : Program → List Item → List ℕ
+all_used p items =
+    let vs = flat_map variables_in items in
+    flat_map (item_used p) items
+    ++ ((globals_begin p 0 0 vs).used ++ (bodies p (length vs) (defined_functions items)).used)
+
+-- 9 of declarations: a function that is used, by a call or by the tester, has no body
+abbrev pub is_number_in : ℕ → List ℕ → Bool
+is_number_in n [] = false
+is_number_in n (m ∷ ms) = n == m || is_number_in n ms
+
+abbrev pub is_used : List ℕ → ℕ → Function → Bool
+is_used used n f = is_number_in n used || is_some (event_of f)
+
+abbrev pub unmet_from : List ℕ → ℕ → List Function → List Broken
+unmet_from used n [] = []
+unmet_from used n (f ∷ fs) = break_if (is_used used n f) 9 f.place ++ unmet_from used (n + 1) fs
+
+abbrev pub unmet_in : Program → List Item → List Broken
+unmet_in p items =
+    unmet_from (all_used p items) (length (defined_functions items)) (bodiless_functions p.names items)
+
+-- what breaks the rule on bodies, by the calls that a program makes
+unfoldable pub breaks_bodies : Given → Syntax → List Broken
+breaks_bodies g s = unmet_in (program_of g s.items) s.items
 
 -- the typed program, or the broken rule that is told
 unfoldable pub check : Given → Syntax → Result Checked Broken

@@ -1,6 +1,2 @@
 //! Typing: what a program's declarations and statements mean by their types, and the rules that they must keep.
 #![tactic(auto)]
-
-mod context;
-
-pub use context::{Enumeration, Field, Known, Layout, Storage};

@@ -4,10 +4,6 @@
 #[cfg(test)]
 mod outside;
 #[cfg(test)]
-mod parts;
-#[cfg(test)]
 mod quick;
-#[cfg(test)]
-mod settings;
 #[cfg(test)]
 mod statuses;

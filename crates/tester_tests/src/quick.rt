@@ -45,15 +45,3 @@ fn a_price_file_past_its_limit_is_too_large(rt: HostRuntime) -> Result<(), Fail>
     assert_eq!(rt; told.as_slice(), b"error 10 bars.csv\n".as_slice());
     Ok(())
 }
-
-#[test]
-fn runs_again_over_the_same_files_and_writes_the_same(rt: HostRuntime) -> Result<(), Fail> {
-    let mut files = files(rt.alloc(), &HELD, &[])?;
-    for _ in 0..2 {
-        let mut out = sink(rt.alloc(), &[])?;
-        let told = run(rt.alloc(), &LINE, &mut files, &mut out)?;
-        assert!(rt; told.is_empty());
-        assert_eq!(rt; out.bytes().as_slice(), REPORT);
-    }
-    Ok(())
-}

@@ -13,9 +13,9 @@ use Rattle.mql_types.specs.declared.overloads.Choice.TheVariants as choice
 use Rattle.mql_types.specs.Types.{same_type, is_array}
 use Rattle.mql_types.specs.Overloads.{choose}
 use Rattle.mql_typed.specs.declared.info.Info.{Info}
-use Rattle.mql_check.specs.Contexts.{Text, Program, Context}
+use Rattle.mql_scope.specs.Contexts.{Text, Program, Context}
 use Rattle.mql_typed.specs.Typed.{converted, a_value, nothing}
-use Rattle.mql_check.specs.Nodes.{Node, all_kept}
+use Rattle.mql_calls.specs.Nodes.{Node, all_kept}
 
 abbrev pub function_at : ℕ → List Signature → Option Signature
 function_at n [] = None

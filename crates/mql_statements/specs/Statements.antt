@@ -1,6 +1,6 @@
 -- Statements: their rules, one named test each in the order of their numbers, and what they are typed (MQL5
 -- Reference, Language Basics, Operators; Variables).
-use Rattle.std.specs.Prelude.{ℕ, zero, ◌+◌, ℤ, pos, Bool, true, false, not, ◌&&◌, ◌||◌, ◌==◌, ◌-ℤ◌, suc, List, [], ◌∷◌, ◌++◌, length, map, drop, Option, Some, None, is_some, is_none, option_map, if◌then◌else◌}
+use Rattle.std.specs.Prelude.{ℕ, zero, ◌+◌, ℤ, pos, Bool, true, false, not, ◌&&◌, ◌||◌, ◌==◌, ◌-ℤ◌, suc, List, [], ◌∷◌, ◌++◌, length, map, flat_map, drop, Option, Some, None, is_some, is_none, option_map, if◌then◌else◌}
 use Rattle.fx8.specs.declared.int_kind.IntKind.{IntKind}
 use Rattle.fx8.specs.declared.int_kind.IntKind.TheVariants as int_kind
 use Rattle.fx8.specs.Integers.{wrapped, is_zero}
@@ -32,19 +32,19 @@ use Rattle.mql_types.specs.declared.dimensions.Dimensions.TheVariants as dims
 use Rattle.mql_types.specs.Types.{sort_base}
 use Rattle.mql_types.specs.Conversions.{is_number, is_null}
 use Rattle.mql_types.specs.Operators.{unary_sort}
-use Rattle.mql_check.specs.declared.context.Known.{Known}
-use Rattle.mql_check.specs.declared.context.Storage.{Storage}
-use Rattle.mql_check.specs.declared.context.Storage.TheVariants as storage
+use Rattle.mql_scope.specs.declared.context.Known.{Known}
+use Rattle.mql_scope.specs.declared.context.Storage.{Storage}
+use Rattle.mql_scope.specs.declared.context.Storage.TheVariants as storage
 use Rattle.mql_typed.specs.declared.info.Info.{Info}
 use Rattle.mql_typed.specs.declared.info.Standing.{Standing}
 use Rattle.mql_typed.specs.declared.info.Standing.TheVariants as stand
-use Rattle.mql_check.specs.Contexts.{Text, Program, Context, behind, written}
+use Rattle.mql_scope.specs.Contexts.{Text, Program, Context, behind, written}
 use Rattle.mql_typed.specs.Typed.{value_base, value_of, into_sort, converted, condition, var_type}
-use Rattle.mql_check.specs.Names.{stands_at}
-use Rattle.mql_check.specs.Nodes.{passes, nth, is_void, is_whole_array, some_part}
-use Rattle.mql_check.specs.Rules.{no_fit, no_integer, no_condition}
-use Rattle.mql_check.specs.Values.{Found, innermost, broken_at, found_all, infos_in, broken_in, kept_by}
-use Rattle.mql_check.specs.Initialisers.{Begun, nothing_begun, started, start_constant}
+use Rattle.mql_scope.specs.Names.{stands_at}
+use Rattle.mql_calls.specs.Nodes.{passes, nth, is_void, is_whole_array, some_part}
+use Rattle.mql_expressions.specs.Rules.{no_fit, no_integer, no_condition}
+use Rattle.mql_expressions.specs.Values.{Found, found, innermost, broken_at, found_all, infos_in, broken_in, used_in, kept_by}
+use Rattle.mql_statements.specs.Initialisers.{Begun, nothing_begun, started, start_constant}
 
 -- a label of a `switch`: its number, none for `default`, where it is known; and how many statements stand before it
 pub data LabelValue : Type 0 where
@@ -63,7 +63,8 @@ pub record Static : Type 0 where
   pub steps : List Expression
 
 -- what a statement is typed: statements, the locals that it takes, the variables that it declares in the scope
--- around it, its static variables, its labels in a `switch`, and the rules that may be told
+-- around it, its static variables, its labels in a `switch`, the rules that may be told, and the numbers of the
+-- functions that are called
 pub record Told : Type 0 where
   pub typed : List typed.Statement
   pub kept : List VarType
@@ -71,9 +72,11 @@ pub record Told : Type 0 where
   pub statics : List Static
   pub labels : List Label
   pub broken : List Broken
+  pub used : List ℕ
 
 abbrev pub nothing_told : Told
-nothing_told = record { typed = []; kept = []; declared = []; statics = []; labels = []; broken = [] }
+nothing_told =
+    record { typed = []; kept = []; declared = []; statics = []; labels = []; broken = []; used = [] }
 
 -- one after another
 abbrev pub moved : ℕ → Label → Label
@@ -88,6 +91,7 @@ then_told a b =
       statics = a.statics ++ b.statics;
       labels = a.labels ++ map (moved (length a.typed)) b.labels;
       broken = a.broken ++ b.broken;
+      used = a.used ++ b.used;
     }
 
 -- behind a statement in its scope; behind one whose scope has ended
@@ -97,7 +101,7 @@ behind_told t c = behind t.kept t.declared (length t.statics) c
 abbrev pub behind_scope : Told → Context → Context
 behind_scope t c = behind t.kept [] (length t.statics) c
 
--- the type of a variable: sizes are constants
+-- the type of a variable where these locals are in force: sizes are constants
 abbrev pub size_in : Option constant.Value → ℕ
 size_in None = 0
 size_in (Some v) = elim (number_of v) [ None ↦ 0 | Some x ↦ size_at x ]
@@ -106,9 +110,9 @@ size_in (Some v) = elim (number_of v) [ None ↦ 0 | Some x ↦ size_at x ]
     size_at (pos n) = n
     size_at _ = 0
 
-abbrev pub size_of : Program → Dimension → ℕ
-size_of p Open = 0
-size_of p (Size v) = size_in (p.constant v)
+abbrev pub size_of : Program → List Known → Dimension → ℕ
+size_of p ks Open = 0
+size_of p ks (Size v) = size_in (p.constant ks v)
 
 abbrev pub dimensions_of : List ℕ → Dimensions
 dimensions_of [] = dims.None
@@ -117,11 +121,11 @@ dimensions_of (a ∷ b ∷ []) = dims.Two a b
 dimensions_of (a ∷ b ∷ c ∷ []) = dims.Three a b c
 dimensions_of (a ∷ b ∷ c ∷ d ∷ rest) = dims.Four a b c d
 
-abbrev pub typed_of : Program → List Dimension → Base → DataType
-typed_of p ds b = record { base = b; dimensions = dimensions_of (map (size_of p) ds) }
+abbrev pub typed_of : Program → List Known → List Dimension → Base → DataType
+typed_of p ks ds b = record { base = b; dimensions = dimensions_of (map (size_of p ks) ds) }
 
-abbrev pub variable_type : Program → Variable → Option DataType
-variable_type p v = option_map (typed_of p v.dimensions) (written p v.of)
+abbrev pub variable_type : Program → List Known → Variable → Option DataType
+variable_type p ks v = option_map (typed_of p ks v.dimensions) (written p v.of)
 
 abbrev pub declared_standing : Variable → Standing
 declared_standing v = if v.words.is_const then stand.Constant else stand.Variable
@@ -133,6 +137,14 @@ known v t s = record { name = v.name; of = t; stands = s; standing = declared_st
 abbrev pub evaluated : ℕ → List Expression → List typed.Statement
 evaluated line es = map (made.Evaluate line) es
 
+-- the functions that the sizes of a variable call: a size that calls one is no constant
+abbrev pub dimension_used : Context → Dimension → List ℕ
+dimension_used c Open = []
+dimension_used c (Size v) = (found c v).used
+
+abbrev pub dimensions_used : Context → Variable → List ℕ
+dimensions_used c v = flat_map (dimension_used c) v.dimensions
+
 -- a local takes the next number, and then what it begins with is done
 abbrev pub local_told : ℕ → Variable → DataType → ℕ → Begun → Told
 local_told line v t n b =
@@ -141,6 +153,7 @@ local_told line v t n b =
       kept = var_type t ∷ b.kept;
       declared = known v t (storage.Local n) ∷ [];
       broken = b.broken;
+      used = b.used;
     }
 
 abbrev pub local : Context → Variable → DataType → Told
@@ -155,24 +168,28 @@ static_told line v t n b rule =
       declared = known v t (storage.Global n) ∷ [];
       statics = record { of = var_type t; line = line; steps = b.steps } ∷ [];
       broken = innermost v.place (b.broken ++ rule);
+      used = b.used;
     }
 
-abbrev pub not_constant : Program → Variable → Option ℕ
-not_constant p v = if start_constant p v.start then None else Some 36
+abbrev pub not_constant : Program → List Known → Variable → Option ℕ
+not_constant p ks v = if start_constant p ks v.start then None else Some 36
 
 abbrev pub static : Context → Variable → DataType → Told
 static c v t =
     static_told (c.program.line v.place) v t c.statics
     (started c v.place (stands_at (storage.Global c.statics)) t v.start)
-    (broken_at v.place (not_constant c.program v))
+    (broken_at v.place (not_constant c.program c.locals v))
 
 -- a variable of `void` is none: 23
+abbrev pub declares_as : Context → Variable → Option DataType → Told
+declares_as c v None = record nothing_told { broken = broken_at v.place (Some 23) }
+declares_as c v (Some t) = if v.words.is_static then static c v t else local c v t
+
+abbrev pub using : List ℕ → Told → Told
+using more t = record t { used = more ++ t.used }
+
 abbrev pub declares : Context → Variable → Told
-declares c v =
-    elim (variable_type c.program v) [
-      | None ↦ record nothing_told { broken = broken_at v.place (Some 23) }
-      | Some t ↦ if v.words.is_static then static c v t else local c v t
-    ]
+declares c v = using (dimensions_used c v) (declares_as c v (variable_type c.program c.locals v))
 
 abbrev pub declares_all : Context → List Variable → Told
 declares_all c [] = nothing_told
@@ -426,9 +443,9 @@ abbrev pub label_number : Option constant.Value → LabelValue
 label_number None = NoConstant
 label_number (Some v) = elim (number_of v) [ None ↦ NoConstant | Some x ↦ Number x ]
 
-abbrev pub label_told : Program → List Value → LabelValue
-label_told p [] = NoConstant
-label_told p (v ∷ vs) = label_number (p.constant v)
+abbrev pub label_told : Program → List Known → List Value → LabelValue
+label_told p ks [] = NoConstant
+label_told p ks (v ∷ vs) = label_number (p.constant ks v)
 
 abbrev pub a_label : LabelValue → List Label
 a_label x = record { label = x; before = 0 } ∷ []
@@ -528,15 +545,19 @@ abbrev pub broken_parts : List Told → List Broken
 broken_parts [] = []
 broken_parts (t ∷ ts) = t.broken ++ broken_parts ts
 
+abbrev pub used_parts : List Told → List ℕ
+used_parts [] = []
+used_parts (t ∷ ts) = t.used ++ used_parts ts
+
 abbrev pub labels_for : StatementKind → List Told → List Label
 labels_for kind.Switch ts = (joined ts).labels
 labels_for _ ts = []
 
 -- the label that a statement is
-abbrev pub label_of : Program → StatementKind → List Value → List Label
-label_of p kind.Case vs = a_label (label_told p vs)
-label_of p kind.Default vs = a_label Default
-label_of p _ vs = []
+abbrev pub label_of : Program → List Known → StatementKind → List Value → List Label
+label_of p ks kind.Case vs = a_label (label_told p ks vs)
+label_of p ks kind.Default vs = a_label Default
+label_of p ks _ vs = []
 
 -- a statement of what it has
 abbrev pub step_of : StatementKind → Parts → Step
@@ -549,9 +570,10 @@ told_of c place what vs x =
       kept = x.kept;
       declared = x.variables.declared;
       statics = x.variables.statics ++ statics_in x.parts;
-      labels = label_of c.program what vs;
+      labels = label_of c.program c.locals what vs;
       broken = innermost place (x.variables.broken ++ (broken_in x.values ++ (broken_parts x.parts
           ++ broken_at place (lowest c (step_of what x)))));
+      used = x.variables.used ++ (used_in x.values ++ used_parts x.parts);
     }
 
 abbrev pub is_for : StatementKind → Bool

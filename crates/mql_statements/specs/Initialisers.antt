@@ -1,7 +1,7 @@
 -- What variables begin with: values, and lists of values in braces (MQL5 Reference, Language Basics, Variables,
 -- Initialization of Variables; Arrays; Structures). A list that is shorter than its array or structure leaves the
 -- rest zero, and a dynamic array gets the list's size.
-use Rattle.std.specs.Prelude.{ℕ, ◌+◌, ℤ, pos, Bool, true, false, not, ◌&&◌, ◌||◌, nat_lt, ◌==◌, List, [], ◌∷◌, ◌++◌, length, Option, Some, None, is_some, is_none, option_map, slice_get, if◌then◌else◌}
+use Rattle.std.specs.Prelude.{ℕ, ◌+◌, ℤ, pos, Bool, true, false, not, ◌&&◌, ◌||◌, nat_lt, ◌==◌, List, [], ◌∷◌, ◌++◌, length, flat_map, Option, Some, None, is_some, is_none, option_map, slice_get, if◌then◌else◌}
 use Rattle.natives.specs.declared.native.Native.TheVariants as natives
 use Rattle.mql_meaning.specs.declared.types.VarType.{VarType}
 use Rattle.mql_meaning.specs.declared.operator.Operator.TheVariants as operator
@@ -21,31 +21,40 @@ use Rattle.mql_types.specs.declared.dimensions.Dimensions.{Dimensions}
 use Rattle.mql_types.specs.declared.dimensions.Dimensions.TheVariants as dims
 use Rattle.mql_types.specs.Types.{is_array}
 use Rattle.mql_types.specs.Conversions.{fits}
-use Rattle.mql_check.specs.declared.context.Field.{Field}
+use Rattle.mql_scope.specs.declared.context.Field.{Field}
+use Rattle.mql_scope.specs.declared.context.Known.{Known}
 use Rattle.mql_typed.specs.declared.info.Info.{Info}
-use Rattle.mql_check.specs.Contexts.{Program, Context, behind}
+use Rattle.mql_scope.specs.Contexts.{Program, Context, behind}
 use Rattle.mql_typed.specs.Operations.{element_type}
 use Rattle.mql_typed.specs.Typed.{on_one, on_two, int, value_base, converted}
-use Rattle.mql_check.specs.Nodes.{passes, is_void, is_whole_array}
-use Rattle.mql_check.specs.Rules.{no_fit, fields_at}
-use Rattle.mql_check.specs.Values.{Found, found, innermost, broken_at, kept_by}
+use Rattle.mql_calls.specs.Nodes.{passes, is_void, is_whole_array}
+use Rattle.mql_expressions.specs.Rules.{no_fit, fields_at}
+use Rattle.mql_expressions.specs.Values.{Found, found, innermost, broken_at, broken_in, used_in, kept_by}
 
--- what a variable begins with: what is done, one expression after another, the locals that this takes, and the
--- rules that may be told
+-- what a variable begins with: what is done, one expression after another, the locals that this takes, the
+-- rules that may be told, and the numbers of the functions that are called
 pub record Begun : Type 0 where
   pub steps : List Expression
   pub kept : List VarType
   pub broken : List Broken
+  pub used : List ℕ
 
 abbrev pub nothing_begun : Begun
-nothing_begun = record { steps = []; kept = []; broken = [] }
+nothing_begun = record { steps = []; kept = []; broken = []; used = [] }
 
 abbrev pub then_begun : Begun → Begun → Begun
 then_begun a b =
-    record { steps = a.steps ++ b.steps; kept = a.kept ++ b.kept; broken = a.broken ++ b.broken }
+    record {
+      steps = a.steps ++ b.steps;
+      kept = a.kept ++ b.kept;
+      broken = a.broken ++ b.broken;
+      used = a.used ++ b.used;
+    }
 
-abbrev pub refused : Place → ℕ → Begun
-refused p r = record { steps = []; kept = []; broken = broken_at p (Some r) }
+-- what begins nothing breaks a rule, and its values are judged by themselves
+abbrev pub refused : Place → ℕ → List Found → Begun
+refused p r fs =
+    record nothing_begun { broken = innermost p (broken_in fs ++ broken_at p (Some r)); used = used_in fs }
 
 -- the places of an array or a structure, each with its type, by their numbers
 abbrev pub Parts : Type 0
@@ -113,6 +122,7 @@ one_begun p e t f =
       steps = puts e t f.info;
       kept = kept_by f.info;
       broken = innermost p (f.broken ++ broken_at p (start_rule t f.info));
+      used = f.used;
     }
 
 -- behind what a variable began with
@@ -127,6 +137,16 @@ abbrev pub row_length : {m : _} → Row_of-Value m → ℕ
 row_length end_of-Value = 0
 row_length (more_of-Value v vs) = row_length vs + 1
 
+-- the values that stand in braces, each by itself
+abbrev mutual
+  pub loose : Context → Value → List Found
+  loose c (Node' q what types m row) =
+      if is_braces what then loose_row c row else found c (Node' q what types m row) ∷ []
+
+  pub loose_row : Context → {m : _} → Row_of-Value m → List Found
+  loose_row c end_of-Value = []
+  loose_row c (more_of-Value v vs) = loose c v ++ loose_row c vs
+
 abbrev pub in_braces : Place → List Expression → Begun → Begun
 in_braces q before b = record b { steps = before ++ b.steps; broken = innermost q b.broken }
 
@@ -136,7 +156,7 @@ abbrev mutual
   begins c p e t (Node' q what types m row) =
       if is_braces what
       then elim (parts_of c.program e t) [
-        | None ↦ refused p 35
+        | None ↦ refused p 35 (loose_row c row)
         | Some parts ↦ in_braces q (sized e t (row_length row)) (begins_row c q parts 0 row)
       ]
       else one_begun p e t (found c (Node' q what types m row))
@@ -146,7 +166,7 @@ abbrev mutual
   begins_row c q parts k end_of-Value = nothing_begun
   begins_row c q parts k (more_of-Value v vs) =
       elim (parts k) [
-        | None ↦ refused q 35
+        | None ↦ refused q 35 (loose c v ++ loose_row c vs)
         | Some x ↦ let b = begins c q x.0 x.1 v in
             then_begun b (begins_row (behind_begun b c) q parts (k + 1) vs)
       ]
@@ -155,18 +175,18 @@ abbrev mutual
 abbrev pub started : Context → Place → Expression → DataType → Start → Begun
 started c p e t start.Zero = nothing_begun
 started c p e t (start.Value v) = begins c p e t v
-started c p e t (start.Arguments vs) = refused p 33
+started c p e t (start.Arguments vs) = refused p 33 (flat_map (loose c) vs)
 
--- all values are constants
+-- all values are constants where these locals are in force
 abbrev mutual
-  pub are_constant : Program → Value → Bool
-  are_constant p (Node' q what types m row) =
-      if is_braces what then all_constant p row else is_some (p.constant (Node' q what types m row))
+  pub are_constant : Program → List Known → Value → Bool
+  are_constant p ks (Node' q what types m row) =
+      if is_braces what then all_constant p ks row else is_some (p.constant ks (Node' q what types m row))
 
-  pub all_constant : Program → {m : _} → Row_of-Value m → Bool
-  all_constant p end_of-Value = true
-  all_constant p (more_of-Value v vs) = are_constant p v && all_constant p vs
+  pub all_constant : Program → List Known → {m : _} → Row_of-Value m → Bool
+  all_constant p ks end_of-Value = true
+  all_constant p ks (more_of-Value v vs) = are_constant p ks v && all_constant p ks vs
 
-abbrev pub start_constant : Program → Start → Bool
-start_constant p (start.Value v) = are_constant p v
-start_constant p _ = true
+abbrev pub start_constant : Program → List Known → Start → Bool
+start_constant p ks (start.Value v) = are_constant p ks v
+start_constant p ks _ = true

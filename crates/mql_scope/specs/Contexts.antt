@@ -1,6 +1,5 @@
 -- What is known where a node stands (MQL5 Reference, Language Basics, Variables, Visibility Scope; Data Types).
-use Rattle.std.specs.Prelude.{ℕ, ◌+◌, Bool, true, false, ◌&&◌, ◌==◌, List, [], ◌∷◌, ◌++◌, length, map, Option, Some, None, option_map, bytes_eq, if◌then◌else◌}
-use Rattle.natives.specs.declared.types.SimpleType.{SimpleType}
+use Rattle.std.specs.Prelude.{ℕ, ◌+◌, Bool, List, [], ◌∷◌, ◌++◌, length, map, Option, Some, None, option_map, bytes_eq, if◌then◌else◌}
 use Rattle.mql_mean.specs.declared.value.Value.{Value}
 use Rattle.mql_meaning.specs.declared.types.VarType.{VarType}
 use Rattle.mql_syntax.specs.declared.value.Value as syntax
@@ -12,17 +11,16 @@ use Rattle.mql_names.specs.Types.{Names, type_sort, type_name}
 use Rattle.mql_types.specs.declared.types.Base.{Base}
 use Rattle.mql_types.specs.declared.types.Base.TheVariants as base
 use Rattle.mql_types.specs.declared.overloads.Signature.{Signature}
-use Rattle.mql_check.specs.declared.context.Known.{Known}
-use Rattle.mql_check.specs.declared.context.Field.{Field}
-use Rattle.mql_check.specs.declared.context.Layout.{Layout}
-use Rattle.mql_check.specs.declared.context.Enumeration.{Enumeration}
+use Rattle.mql_scope.specs.declared.context.Known.{Known}
+use Rattle.mql_scope.specs.declared.context.Layout.{Layout}
+use Rattle.mql_scope.specs.declared.context.Enumeration.{Enumeration}
 
 abbrev pub Text : Type 0
 Text = List ℕ
 
 -- the whole program: what its names mean; structures, the supplied ones first; enumerations; global variables;
 -- functions with the defaults of their parameters, each by its function's number and its place; the constant
--- that an expression is, if it is one; the line and the file of a node
+-- that an expression is where these locals are in force, if it is one; the line and the file of a node
 pub record Program : Type 0 where
   pub names : Names
   pub structures : List Layout
@@ -30,7 +28,7 @@ pub record Program : Type 0 where
   pub globals : List Known
   pub functions : List Signature
   pub default : ℕ → ℕ → Option Value
-  pub constant : syntax.Value → Option Value
+  pub constant : List Known → syntax.Value → Option Value
   pub line : Place → ℕ
   pub file : Place → Text
 
@@ -66,11 +64,17 @@ abbrev pub number_named : Text → List Text → ℕ → Option ℕ
 number_named x [] n = None
 number_named x (y ∷ ys) n = either (number_named x ys (n + 1)) (if bytes_eq y x then Some n else None)
 
+abbrev pub layout_names : List Layout → List Text
+layout_names ls = map (λ (l : Layout). l.name) ls
+
+abbrev pub enumeration_names : List Enumeration → List Text
+enumeration_names es = map (λ (e : Enumeration). e.name) es
+
 abbrev pub structure_number : Program → Text → Option ℕ
-structure_number p x = number_named x (map (λ (l : Layout). l.name) p.structures) 0
+structure_number p x = number_named x (layout_names p.structures) 0
 
 abbrev pub enumeration_number : Program → Text → Option ℕ
-enumeration_number p x = number_named x (map (λ (e : Enumeration). e.name) p.enumerations) 0
+enumeration_number p x = number_named x (enumeration_names p.enumerations) 0
 
 -- the type that a sort with a name is; none for `void`
 abbrev pub sort_type : Program → Text → Sort → Option Base

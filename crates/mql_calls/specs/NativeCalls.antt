@@ -29,11 +29,11 @@ use Rattle.mql_types.specs.declared.types.DataType.{DataType}
 use Rattle.mql_types.specs.Types.{same, same_type, is_array, is_dynamic}
 use Rattle.mql_types.specs.Conversions.{is_number, common_number, fits, is_null}
 use Rattle.mql_types.specs.Operators.{string}
-use Rattle.mql_check.specs.declared.context.Enumeration.{Enumeration}
+use Rattle.mql_scope.specs.declared.context.Enumeration.{Enumeration}
 use Rattle.mql_typed.specs.declared.info.Info.{Info}
-use Rattle.mql_check.specs.Contexts.{Text, Program}
+use Rattle.mql_scope.specs.Contexts.{Text, Program}
 use Rattle.mql_typed.specs.Typed.{is_lasting, is_fixed, single, value_base, value_of, converted, a_value, nothing}
-use Rattle.mql_check.specs.Nodes.{passes, all_kept}
+use Rattle.mql_calls.specs.Nodes.{passes, all_kept}
 
 -- the numbers of the supplied structures
 abbrev pub supplied_number : Structure → ℕ

@@ -24,16 +24,18 @@ use Rattle.mql_types.specs.Types.{is_array, sort_base}
 use Rattle.mql_types.specs.Conversions.{is_number, is_null, fits}
 use Rattle.mql_types.specs.Operators.{binary_sort, result_base, no_numbers, bits_of_double, compares_structures, is_double, branches}
 use Rattle.mql_types.specs.Overloads.{choose}
-use Rattle.mql_check.specs.declared.context.Field.{Field}
-use Rattle.mql_check.specs.declared.context.Layout.{Layout}
+use Rattle.mql_scope.specs.declared.context.Field.{Field}
+use Rattle.mql_scope.specs.declared.context.Layout.{Layout}
 use Rattle.mql_typed.specs.declared.info.Info.{Info}
-use Rattle.mql_check.specs.Contexts.{Text, Program, Context, written}
-use Rattle.mql_check.specs.Names.{Callee, Functions, Conversion, Supplied, Other, Unknown, name_info, callee}
+use Rattle.mql_scope.specs.Contexts.{Text, Program, Context, written}
+use Rattle.mql_scope.specs.declared.names.Callee.{Callee}
+use Rattle.mql_scope.specs.declared.names.Callee.TheVariants.{Functions, Conversion, Supplied, Other, Unknown}
+use Rattle.mql_scope.specs.Names.{name_info, callee}
 use Rattle.mql_typed.specs.Typed.{value_base}
 use Rattle.mql_typed.specs.Operations.{int_operator}
-use Rattle.mql_check.specs.Nodes.{Node, Rule, passes, nth, ask, ask_base, ask_bases, some_part, is_void, is_whole_array, no_place, is_constant, is_of_input, told, arguments_of}
-use Rattle.mql_check.specs.Calls.{chosen, is_nothing, is_equal, some_pair, not_placed, differs, lends_constant, whole_array}
-use Rattle.mql_check.specs.NativeCalls.{wrong_arguments, lends_native, flags_no_line}
+use Rattle.mql_calls.specs.Nodes.{Node, Rule, passes, nth, ask, ask_base, ask_bases, some_part, is_void, is_whole_array, no_place, is_constant, is_of_input, told, arguments_of}
+use Rattle.mql_calls.specs.Calls.{chosen, is_nothing, is_equal, some_pair, not_placed, differs, lends_constant, whole_array}
+use Rattle.mql_calls.specs.NativeCalls.{wrong_arguments, lends_native, flags_no_line}
 
 -- the operator between two values at a node, that of an assignment included
 abbrev pub operator_of : Operation → Option IntOperator

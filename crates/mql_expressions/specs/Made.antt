@@ -8,17 +8,20 @@ use Rattle.mql_syntax.specs.declared.value.Operation.{Operation}
 use Rattle.mql_syntax.specs.declared.value.Operation.TheVariants as operation
 use Rattle.mql_types.specs.declared.types.Base.{Base}
 use Rattle.mql_types.specs.declared.types.Base.TheVariants as base
+use Rattle.mql_types.specs.declared.overloads.Signature.{Signature}
 use Rattle.mql_types.specs.Operators.{bool}
-use Rattle.mql_check.specs.declared.context.Field.{Field}
+use Rattle.mql_scope.specs.declared.context.Field.{Field}
 use Rattle.mql_typed.specs.declared.info.Info.{Info}
 use Rattle.mql_typed.specs.Typed.{is_place}
 use Rattle.mql_typed.specs.Operations.{on, literal, truth, unary_info, postfix_info, binary_info, conditional_info, assign_info, update_info, index_info, kept_field, placed_field, cast_info}
-use Rattle.mql_check.specs.Contexts.{Text, Context}
-use Rattle.mql_check.specs.Names.{Callee, Functions, Conversion, Supplied, Other, Unknown, name_info, callee}
-use Rattle.mql_check.specs.Nodes.{Node, nth, told, arguments}
-use Rattle.mql_check.specs.Calls.{chosen, call_info}
-use Rattle.mql_check.specs.NativeCalls.{native_info}
-use Rattle.mql_check.specs.Rules.{cast_base, field_at, lowest}
+use Rattle.mql_scope.specs.Contexts.{Text, Context}
+use Rattle.mql_scope.specs.declared.names.Callee.{Callee}
+use Rattle.mql_scope.specs.declared.names.Callee.TheVariants.{Functions, Conversion, Supplied, Other, Unknown}
+use Rattle.mql_scope.specs.Names.{name_info, callee}
+use Rattle.mql_calls.specs.Nodes.{Node, nth, told, arguments, arguments_of}
+use Rattle.mql_calls.specs.Calls.{chosen, call_info}
+use Rattle.mql_calls.specs.NativeCalls.{native_info}
+use Rattle.mql_expressions.specs.Rules.{calls, on_functions, cast_base, field_at, lowest}
 
 abbrev pub field_info : Context → Info → ℕ × Field → Option Info
 field_info c i f =
@@ -87,3 +90,14 @@ judged None c n = made_at n.what c n
 
 unfoldable pub tells : Context → Node → Option Info
 tells c n = judged (lowest c n) c n
+
+-- the function of the program that a node calls, where its arguments choose one
+abbrev pub number_in : Option Signature → List ℕ
+number_in None = []
+number_in (Some f) = f.number ∷ []
+
+abbrev pub chosen_at : Context → Node → Option Signature
+chosen_at c n = on n.called (λ x. on (arguments_of n) (chosen c.program x))
+
+unfoldable pub uses : Context → Node → List ℕ
+uses c n = if calls on_functions c n then number_in (chosen_at c n) else []

@@ -9,10 +9,10 @@ use Rattle.mql_syntax.specs.declared.value.Operation.TheVariants as operation
 use Rattle.mql_syntax.specs.declared.value.Value.{Value, Node', Row_of-Value, end_of-Value, more_of-Value}
 use Rattle.mql_names.specs.declared.fault.Broken.{Broken}
 use Rattle.mql_typed.specs.declared.info.Info.{Info}
-use Rattle.mql_check.specs.Contexts.{Text, Context, behind}
-use Rattle.mql_check.specs.Nodes.{Node}
-use Rattle.mql_check.specs.Rules.{lowest}
-use Rattle.mql_check.specs.Made.{tells}
+use Rattle.mql_scope.specs.Contexts.{Text, Context, behind}
+use Rattle.mql_calls.specs.Nodes.{Node}
+use Rattle.mql_expressions.specs.Rules.{lowest}
+use Rattle.mql_expressions.specs.Made.{tells, uses}
 
 -- rules broken below a node, and those broken at it
 abbrev pub below : ℕ → List Broken → List Broken
@@ -32,10 +32,11 @@ abbrev pub broken_at : Place → Option ℕ → List Broken
 broken_at p None = []
 broken_at p (Some r) = record { rule = r; node = p.at; first = p.first } ∷ []
 
--- what an expression tells, and what is broken in it
+-- what an expression tells, what is broken in it, and the numbers of the functions that calls in it choose
 pub record Found : Type 0 where
   pub info : Option Info
   pub broken : List Broken
+  pub used : List ℕ
 
 abbrev pub infos_in : List Found → List (Option Info)
 infos_in [] = []
@@ -44,6 +45,10 @@ infos_in (f ∷ fs) = f.info ∷ infos_in fs
 abbrev pub broken_in : List Found → List Broken
 broken_in [] = []
 broken_in (f ∷ fs) = f.broken ++ broken_in fs
+
+abbrev pub used_in : List Found → List ℕ
+used_in [] = []
+used_in (f ∷ fs) = f.used ++ used_in fs
 
 -- the name that an expression is
 abbrev pub name_at : Operation → Option Text
@@ -78,7 +83,11 @@ node place what types name fs =
 
 abbrev pub found_at : Context → Node → List Found → Found
 found_at c n fs =
-    record { info = tells c n; broken = innermost n.place (broken_in fs ++ broken_at n.place (lowest c n)) }
+    record {
+      info = tells c n;
+      broken = innermost n.place (broken_in fs ++ broken_at n.place (lowest c n));
+      used = used_in fs ++ uses c n;
+    }
 
 abbrev mutual
   pub found : Context → Value → Found

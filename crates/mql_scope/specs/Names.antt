@@ -1,9 +1,8 @@
 -- What a name means where a value or a call stands: the innermost variable first, then what the program
 -- declares, then what the language supplies (MQL5 Reference, Variables, Visibility Scope; Predefined Variables;
 -- Standard Constants, Enumerations and Structures).
-use Rattle.std.specs.Prelude.{ℕ, ℤ, pos, neg_ℤ, Bool, true, false, ◌||◌, ◌+◌, List, [], ◌∷◌, codes, Option, Some, None, is_some, option_map, bytes_eq, if◌then◌else◌}
+use Rattle.std.specs.Prelude.{ℕ, ℤ, pos, Bool, false, ◌||◌, ◌+◌, List, [], ◌∷◌, Option, Some, None, is_some, option_map, bytes_eq, if◌then◌else◌}
 use Rattle.fx8.specs.declared.int_kind.IntKind.TheVariants as kind
-use Rattle.natives.specs.declared.types.SimpleType.{SimpleType}
 use Rattle.natives.specs.declared.types.SimpleType.TheVariants as simple
 use Rattle.natives.specs.declared.types.ConstantValue.{ConstantValue}
 use Rattle.natives.specs.declared.types.ConstantValue.TheVariants as constants
@@ -11,13 +10,11 @@ use Rattle.natives.specs.declared.constant.Constant.{Constant}
 use Rattle.natives.specs.declared.constant.Constant.TheVariants as named_constant
 use Rattle.natives.specs.declared.predefined.Predefined.{Predefined}
 use Rattle.natives.specs.declared.predefined.Predefined.TheVariants as predefined
-use Rattle.natives.specs.declared.supplied.SuppliedType.{SuppliedType}
 use Rattle.natives.specs.declared.native.Native.{Native}
 use Rattle.natives.specs.declared.native.Native.TheVariants as natives
 use Rattle.natives.specs.Constants.{constant_named, constant_value}
 use Rattle.natives.specs.Structures.{predefined_named, predefined_kind}
 use Rattle.natives.specs.Names.{named}
-use Rattle.mql_mean.specs.declared.value.Value.{Value}
 use Rattle.mql_mean.specs.declared.value.Value.TheVariants as value
 use Rattle.mql_meaning.specs.declared.tree.Member.{Member}
 use Rattle.mql_meaning.specs.declared.operator.Operator.TheVariants as operator
@@ -31,12 +28,14 @@ use Rattle.mql_names.specs.declared.types.Sort.TheVariants as written
 use Rattle.mql_types.specs.declared.types.Base.{Base}
 use Rattle.mql_types.specs.declared.types.Base.TheVariants as base
 use Rattle.mql_types.specs.declared.overloads.Signature.{Signature}
-use Rattle.mql_check.specs.declared.context.Known.{Known}
-use Rattle.mql_check.specs.declared.context.Storage.{Storage}
-use Rattle.mql_check.specs.declared.context.Storage.TheVariants as storage
-use Rattle.mql_check.specs.declared.context.Enumeration.{Enumeration}
+use Rattle.mql_scope.specs.declared.context.Known.{Known}
+use Rattle.mql_scope.specs.declared.context.Storage.{Storage}
+use Rattle.mql_scope.specs.declared.context.Storage.TheVariants as storage
+use Rattle.mql_scope.specs.declared.context.Enumeration.{Enumeration}
 use Rattle.mql_typed.specs.declared.info.Info.{Info}
-use Rattle.mql_check.specs.Contexts.{Text, Program, Context, either, variable_named, sort_type}
+use Rattle.mql_scope.specs.declared.names.Callee.{Callee}
+use Rattle.mql_scope.specs.declared.names.Callee.TheVariants.{Functions, Conversion, Supplied, Other, Unknown}
+use Rattle.mql_scope.specs.Contexts.{Text, Program, Context, either, variable_named, sort_type}
 use Rattle.mql_typed.specs.Typed.{on_one, int, a_value, a_place}
 
 -- the place of a variable
@@ -77,6 +76,9 @@ tested_symbol = expression.Constant (value.Str [])
 abbrev pub constant_expression : Constant → Expression
 constant_expression k = (of_constant_value (constant_value k)).typed
 
+abbrev pub symbol_property : Native → Constant → Expression
+symbol_property f k = expression.Native f (tested_symbol ∷ constant_expression k ∷ [])
+
 abbrev pub text_constant : Text → Expression
 text_constant t = expression.Constant (value.Str t)
 
@@ -86,13 +88,10 @@ predefined_typed c p predefined.Line = int (pos (c.program.line p))
 predefined_typed c p predefined.Function = text_constant c.function
 predefined_typed c p predefined.Symbol = expression.Native natives.Symbol []
 predefined_typed c p predefined.Period = expression.Native natives.Period []
-predefined_typed c p predefined.Point =
-    expression.Native natives.SymbolInfoDouble
-    (tested_symbol ∷ constant_expression named_constant.SymbolPoint ∷ [])
+predefined_typed c p predefined.Point = symbol_property natives.SymbolInfoDouble named_constant.SymbolPoint
 predefined_typed c p predefined.Digits =
     on_one (operator.Convert (sort.Number kind.Int))
-    (expression.Native natives.SymbolInfoInteger
-    (tested_symbol ∷ constant_expression named_constant.SymbolDigits ∷ []))
+    (symbol_property natives.SymbolInfoInteger named_constant.SymbolDigits)
 predefined_typed c p predefined.Lasterror = expression.Native natives.GetLastError []
 
 abbrev pub of_predefined : Context → Place → Predefined → Info
@@ -102,32 +101,22 @@ abbrev pub predefined_info : Context → Place → Text → Option Info
 predefined_info c p x = option_map (of_predefined c p) (predefined_named x)
 
 -- the program declares the name
-abbrev pub is_declared : Context → Text → Bool
-is_declared c x = is_some (c.program.names x)
+abbrev pub is_declared : Program → Text → Bool
+is_declared p x = is_some (p.names x)
 
 -- what the language supplies of a name that the program does not declare
 abbrev pub supplied_info : Context → Place → Text → Option Info
 supplied_info c p x =
-    if is_declared c x then None else either (constant_info x) (predefined_info c p x)
+    if is_declared c.program x then None else either (constant_info x) (predefined_info c p x)
 
 -- the value or the variable that a name is
+abbrev pub outer_info : Context → Place → Text → Option Info
+outer_info c p x = either (member_named x 0 c.program.enumerations) (supplied_info c p x)
+
 abbrev pub name_info : Context → Place → Text → Option Info
 name_info c p x =
     either (option_map of_variable (variable_named x c.locals))
-    (either (option_map of_variable (variable_named x c.program.globals))
-    (either (member_named x 0 c.program.enumerations) (supplied_info c p x)))
-
--- what a name is that is called
-pub data Callee : Type 0 where
-  -- functions of the program
-  Functions : Callee
-  -- an enumeration, or another name of `int`
-  Conversion : Base → Callee
-  -- a native function
-  Supplied : Native → Callee
-  -- something else of this name
-  Other : Callee
-  Unknown : Callee
+    (either (option_map of_variable (variable_named x c.program.globals)) (outer_info c p x))
 
 abbrev pub has_function : Text → List Signature → Bool
 has_function x [] = false
@@ -143,13 +132,13 @@ abbrev pub called_native : Option Native → Callee
 called_native None = Unknown
 called_native (Some f) = Supplied f
 
-abbrev pub called_sort : Context → Text → Sort → Callee
-called_sort c x written.Unknown = if is_declared c x then Other else called_native (named x)
-called_sort c x s = called_type (sort_type c.program x s)
+abbrev pub called_sort : Program → Text → Sort → Callee
+called_sort p x written.Unknown = if is_declared p x then Other else called_native (named x)
+called_sort p x s = called_type (sort_type p x s)
 
 abbrev pub called_outside : Context → Place → Text → Callee
 called_outside c p x =
-    if is_some (name_info c p x) then Other else called_sort c x (named_sort c.program.names x)
+    if is_some (name_info c p x) then Other else called_sort c.program x (named_sort c.program.names x)
 
 abbrev pub callee : Context → Place → Text → Callee
 callee c p x =

@@ -11,7 +11,7 @@ use Rattle.mql_types.specs.declared.types.DataType.{DataType}
 use Rattle.mql_types.specs.declared.overloads.Argument.{Argument}
 use Rattle.mql_types.specs.Types.{is_array}
 use Rattle.mql_typed.specs.declared.info.Info.{Info}
-use Rattle.mql_check.specs.Contexts.{Text, Context}
+use Rattle.mql_scope.specs.Contexts.{Text, Context}
 use Rattle.mql_typed.specs.Typed.{value_base, is_lasting, is_fixed, is_input}
 
 -- a node: where it stands, what it does, its types, the name that it calls, and what its parts tell; a name
