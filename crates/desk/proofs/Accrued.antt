@@ -1,6 +1,5 @@
 -- The swap of positions: how much it is, and that its events may be added.
-use Rattle.std.proofs.Common.{◌≡◌, ◌∙◌, ℕ, suc, zero, ◌+◌, ◌-◌, ◌*◌, ◌^◌, ◌<◌, ◌≤◌, ◌++◌, append-nil, append_assoc, Bool, true, false, cond, eqb, ltb, List, [], ◌∷◌, length, map, filter, slice_get, Option, Some, None, ℤ, pos, ◌+ℤ◌, ◌*ℤ◌, ◌≤ℤ◌, unsigned_abs, FitsSigned, refl, ap, sym, subst, arith, rules}
-use Rattle.std.specs.Int.{w64}
+use Rattle.std.proofs.Common.{◌≡◌, ◌∙◌, ℕ, suc, zero, ◌+◌, ◌-◌, ◌*◌, ◌^◌, ◌≤◌, ◌++◌, append-nil, append_assoc, Bool, true, false, cond, eqb, ltb, List, [], ◌∷◌, length, map, filter, slice_get, Option, Some, None, ℤ, pos, ◌+ℤ◌, ◌*ℤ◌, unsigned_abs, refl, ap, sym, subst, arith, rules}
 use Rattle.std.specs.List.{All, flat_map}
 use Rattle.std.specs.Ordering.{int_eq}
 use Rattle.std.specs.Option.{option_map}
@@ -9,7 +8,7 @@ use Rattle.std.proofs.lemmas.Int.{ints, unsigned_abs-mul}
 use Rattle.std.proofs.lemmas.Nat.{mul-le}
 use Rattle.std.proofs.lemmas.List.Elements.{All-tail}
 use Rattle.fx8.specs.Rounding.{rounded}
-use Rattle.market_types.specs.Ranges.{IsSpec, IsSwap}
+use Rattle.market_types.specs.Ranges.{IsSpec}
 use Rattle.market_types.specs.declared.quote.Quote.{Quote}
 use Rattle.market_types.specs.declared.symbol_spec.SymbolSpec.{SymbolSpec}
 use Rattle.account.specs.declared.account_spec.AccountSpec.{AccountSpec}
@@ -18,21 +17,21 @@ use Rattle.account.specs.declared.event.Event.{Event}
 use Rattle.account.specs.declared.event.Event.TheVariants.{Swap}
 use Rattle.account.specs.Deals.{deals}
 use Rattle.account.specs.Keyed.{item, put, Rising, AllAbove, KeyIs}
-use Rattle.account.specs.Positions.{position_ticket, with_swap, positions_after, open_positions}
+use Rattle.account.specs.Positions.{position_ticket, with_swap, open_positions}
 use Rattle.account.specs.Ranges.{KeepsTypes}
 use Rattle.account.specs.StopOut.{PriceList}
 use Rattle.account.proofs.Bounds.{rounded_le, sum_le}
-use Rattle.account.proofs.Keys.{item-put, item-put-other}
+use Rattle.account.proofs.Keys.{item-put-other}
 use Rattle.account.proofs.Kept.{rising_open, open_more}
 use Rattle.desk.specs.Books.{IsRuleOf}
 use Rattle.desk.specs.Effect.{swaps, swaps_of, with_quote}
 use Rattle.desk.specs.Nights.{night_after, nights_from, nights_between, swap_rate, swap_amount, swap_event, swap_events, accrual}
 use Rattle.desk.specs.Quotes.{MayQuote}
-use Rattle.desk.specs.Sound.{day_of, day_of_quote, day_at, IsKept, IsSound, AreQuoted, MayFollow}
+use Rattle.desk.specs.Sound.{day_of, day_at, IsKept, IsSound, AreQuoted, MayFollow}
 use Rattle.desk.specs.State.{Quoted}
 use Rattle.desk.specs.Tickets.{last_order}
 use Rattle.desk.proofs.Entered.{types_kept}
-use Rattle.desk.proofs.Quoting.{are_quoted, day_before, day_quoted}
+use Rattle.desk.proofs.Quoting.{day_before, day_quoted}
 
 -- how many nights there are
 night_most : (swap_day day : ℕ) → night_after swap_day day ≤ 3

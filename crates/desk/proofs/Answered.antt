@@ -1,12 +1,12 @@
 -- What a run of the books is to the desk.
-use Rattle.std.proofs.Common.{◌≡◌, ◌∙◌, ℕ, ◌≤◌, Bool, true, false, Result, Ok, Err, refl, ap, sym, subst}
+use Rattle.std.proofs.Common.{◌≡◌, ◌∙◌, ℕ, ◌≤◌, Bool, false, Result, Ok, Err, ap, sym}
 use Rattle.desk.specs.declared.fault.DeskFault.{DeskFault}
 use Rattle.desk.specs.declared.fault.DeskFault.TheVariants as desk_fault
 use Rattle.desk.specs.Books.{Kept}
 use Rattle.desk.specs.Effect.{Run}
 use Rattle.desk.specs.Quotes.{Leaves}
-use Rattle.desk.specs.Runs.{Runs, after_run}
-use Rattle.desk.specs.State.{Quoted, DeskState}
+use Rattle.desk.specs.Runs.{Runs}
+use Rattle.desk.specs.State.{DeskState}
 use Rattle.desk.specs.Tickets.{last_order}
 
 -- a desk of books

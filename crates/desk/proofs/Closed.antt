@@ -1,7 +1,6 @@
 -- Closing a position: the fill may be done, and what it leaves.
-use Rattle.std.proofs.Common.{◌≡◌, ◌∙◌, ℕ, ◌+◌, ◌^◌, ◌<◌, ◌≤◌, ◌++◌, append-nil, Bool, true, false, not, cond, eqb, List, [], ◌∷◌, length, find, slice_get, Option, Some, None, Result, Ok, Err, ℤ, pos, ◌≤ℤ◌, ◌<ℤ◌, int_lt, refl, ap, sym, subst, arith, rules, is_some}
-use Rattle.std.specs.List.{All}
-use Rattle.std.specs.Prelude.{IfSome, nat_le, unwrap_or}
+use Rattle.std.proofs.Common.{◌≡◌, ◌∙◌, ℕ, ◌+◌, ◌<◌, ◌≤◌, append-nil, Bool, true, false, not, eqb, List, [], length, Option, Some, None, Result, Ok, Err, ℤ, pos, ◌<ℤ◌, int_lt, refl, ap, sym, subst, arith, rules, is_some}
+use Rattle.std.specs.Prelude.{IfSome, unwrap_or}
 use Rattle.std.proofs.lemmas.Int.{ints}
 use Rattle.account.specs.declared.deal.DealReason.{DealReason}
 use Rattle.account.specs.declared.order.Order.{Order}
@@ -11,13 +10,12 @@ use Rattle.account.specs.Keyed.{item, Rising, KeyIs}
 use Rattle.account.specs.Deals.{deals}
 use Rattle.account.specs.Orders.{orders_in_force}
 use Rattle.account.specs.Positions.{position_ticket, same_side, open_positions}
-use Rattle.account.specs.StopOut.{prices_at, closing_price}
+use Rattle.account.specs.StopOut.{prices_at}
 use Rattle.account.proofs.Found.{all_item}
 use Rattle.account.proofs.Keys.{item_key}
 use Rattle.account.proofs.Kept.{rising_open}
 use Rattle.positions.specs.declared.fill.Fill.{Fill}
-use Rattle.positions.specs.Fills.{met, refusal, named_refusal, deal_on, filled}
-use Rattle.positions.specs.Money.{added_by}
+use Rattle.positions.specs.Fills.{met, refusal, named_refusal, deal_on}
 use Rattle.positions.proofs.Filling.{met_item}
 use Rattle.desk.specs.declared.fault.DeskFault.{DeskFault}
 use Rattle.desk.specs.declared.fault.DeskFault.TheVariants as desk_fault
@@ -25,7 +23,7 @@ use Rattle.desk.specs.State.{Quoted, have_room}
 use Rattle.desk.specs.Sound.{IsKept, IsSound, IsModest, AreQuoted, ArePrices, IsTidy}
 use Rattle.desk.specs.Books.{Kept, gained, fill_events, IsFillable}
 use Rattle.desk.specs.Effect.{Run, act, closing_fill, closing_of, events_of_fill, fill_of_closing, last_prices, position_closed}
-use Rattle.desk.specs.Runs.{Runs, after_run}
+use Rattle.desk.specs.Runs.{Runs}
 use Rattle.desk.specs.Tickets.{last_order}
 use Rattle.desk.proofs.Fits.{none_found}
 use Rattle.desk.proofs.Outcomes.{deal_room, deal_full}

@@ -1,6 +1,5 @@
 -- The end of a pass: orders go one after another, and acts go on until one finds no room.
-use Rattle.std.proofs.Common.{◌≡◌, ◌∙◌, ℕ, suc, zero, ◌<◌, ◌++◌, append-nil, append_assoc, Bool, true, false, cond, ltb, List, [], ◌∷◌, length, map, slice_get, Option, Some, None, Result, Ok, Err, ℤ, refl, ap, sym, subst, arith, rules}
-use Rattle.std.specs.List.{fold}
+use Rattle.std.proofs.Common.{◌≡◌, ◌∙◌, ℕ, ◌<◌, ◌++◌, append-nil, append_assoc, Bool, true, false, ltb, List, [], ◌∷◌, length, map, slice_get, Option, Some, None, Result, Ok, Err, ℤ, refl, ap, sym, subst, arith, rules}
 use Rattle.std.specs.Prelude.{is_err}
 use Rattle.account.specs.declared.account_spec.AccountSpec.{AccountSpec}
 use Rattle.account.specs.declared.deal.DealReason.{DealReason}
@@ -8,9 +7,8 @@ use Rattle.account.specs.declared.deal.DealReason.TheVariants as reason
 use Rattle.account.specs.declared.order.Order.{Order}
 use Rattle.account.specs.declared.event.Event.{Event}
 use Rattle.account.specs.declared.event.Event.TheVariants.{Removed}
-use Rattle.account.specs.declared.event.RemovalCause.{RemovalCause}
 use Rattle.account.specs.declared.event.RemovalCause.TheVariants as cause
-use Rattle.account.specs.Keyed.{below, above, put, Rising}
+use Rattle.account.specs.Keyed.{put, Rising}
 use Rattle.account.specs.Orders.{order_ticket, orders_after, orders_in_force}
 use Rattle.account.specs.Positions.{position_ticket, open_positions}
 use Rattle.account.specs.StopOut.{PriceList}
@@ -20,7 +18,6 @@ use Rattle.desk.specs.declared.fault.DeskFault.TheVariants as desk_fault
 use Rattle.desk.specs.Books.{Kept, gained}
 use Rattle.desk.specs.Effect.{Run, act, acts, closing, closing_of, last_time, removals}
 use Rattle.desk.specs.Runs.{Runs, after_run}
-use Rattle.desk.specs.State.{Quoted, have_room}
 use Rattle.desk.proofs.Entered.{orders_more}
 
 -- without its first order the rest of the book is left

@@ -1,18 +1,15 @@
 -- A loud quote keeps what a desk keeps of its prices and times.
-use Rattle.std.proofs.Common.{◌≡◌, ◌∙◌, ℕ, suc, zero, ◌*◌, ◌^◌, ◌<◌, ◌≤◌, Bool, true, false, cond, List, [], ◌∷◌, length, set, slice_get, Option, Some, None, ℤ, pos, ◌≤ℤ◌, int_lt, unsigned_abs, refl, ap, sym, subst, arith, rules, is_some}
+use Rattle.std.proofs.Common.{◌≡◌, ◌∙◌, ℕ, suc, zero, ◌<◌, ◌≤◌, true, List, [], ◌∷◌, length, slice_get, Option, Some, None, ℤ, pos, ◌≤ℤ◌, refl, ap, sym, subst, arith, rules, is_some}
 use Rattle.std.specs.List.{All, fold}
 use Rattle.std.specs.Prelude.{IfSome, slice_set}
 use Rattle.std.proofs.lemmas.Int.{ints}
-use Rattle.std.proofs.lemmas.List.Elements.{All-cons, All-nil, All-tail}
+use Rattle.std.proofs.lemmas.List.Elements.{All-cons, All-tail}
 use Rattle.market_types.specs.declared.quote.Quote.{Quote}
 use Rattle.market_types.specs.Ordered.{IsMoment}
 use Rattle.account.specs.declared.account_spec.AccountSpec.{AccountSpec}
 use Rattle.account.specs.declared.order.Order.{Order}
 use Rattle.account.specs.declared.position.Position.{Position}
-use Rattle.account.specs.declared.event.Event.{Event}
 use Rattle.account.specs.Deals.{deals}
-use Rattle.account.specs.Orders.{orders_in_force}
-use Rattle.account.specs.Positions.{open_positions}
 use Rattle.account.specs.Statistics.{greater}
 use Rattle.account.specs.StopOut.{PriceList, prices_at}
 use Rattle.desk.specs.Effect.{later, last_time, with_quote}

@@ -1,5 +1,5 @@
 -- Stop-out goes on until none is due: each closing takes a position away.
-use Rattle.std.proofs.Common.{◌≡◌, ◌∙◌, ℕ, suc, zero, ◌+◌, ◌<◌, ◌≤◌, ◌++◌, Bool, true, false, not, cond, eqb, List, [], ◌∷◌, length, fold, slice_get, Option, Some, None, Result, Ok, ℤ, int_lt, refl, ap, sym, subst, arith, rules, is_some}
+use Rattle.std.proofs.Common.{◌≡◌, ◌∙◌, ℕ, suc, zero, ◌+◌, ◌<◌, ◌≤◌, ◌++◌, Bool, true, false, not, cond, eqb, List, [], ◌∷◌, length, fold, slice_get, Option, Some, None, Ok, ℤ, int_lt, refl, ap, sym, subst, arith, rules, is_some}
 use Rattle.std.specs.List.{remove}
 use Rattle.std.specs.Option.{option_map}
 use Rattle.std.specs.Prelude.{IfSome}
@@ -8,23 +8,20 @@ use Rattle.std.proofs.lemmas.List.Edits.{length-remove}
 use Rattle.std.proofs.lemmas.List.Sums.{fold-append}
 use Rattle.market_types.specs.declared.symbol_spec.SymbolSpec.{SymbolSpec}
 use Rattle.account.specs.declared.account_spec.AccountSpec.{AccountSpec}
-use Rattle.account.specs.declared.deal.Deal.{Deal}
 use Rattle.account.specs.declared.deal.DealReason.{DealReason}
 use Rattle.account.specs.declared.position.Position.{Position}
 use Rattle.account.specs.declared.event.Event.{Event}
-use Rattle.account.specs.declared.event.Event.TheVariants.{Added}
 use Rattle.account.specs.Deals.{deals}
 use Rattle.account.specs.Keyed.{item, put, lower, found, Rising}
 use Rattle.account.specs.Orders.{orders_in_force}
-use Rattle.account.specs.Positions.{position_ticket, same_side, is_buy, is_balance, after_deal, positions_after, open_positions}
+use Rattle.account.specs.Positions.{position_ticket, same_side, is_buy, positions_after, open_positions}
 use Rattle.account.specs.StopOut.{PriceList, floating, equity, is_due, least, lesser, margin_of, worst}
 use Rattle.account.proofs.Found.{Stands, all_item, gone, stands}
 use Rattle.account.proofs.Kept.{rising_open}
 use Rattle.positions.specs.declared.fill.Fill.{Fill}
-use Rattle.positions.specs.Fills.{kind_of, deal_on, events_on, met}
+use Rattle.positions.specs.Fills.{kind_of, events_on, met}
 use Rattle.positions.proofs.Filling.{not_balance}
-use Rattle.desk.specs.declared.fault.DeskFault.{DeskFault}
-use Rattle.desk.specs.Books.{Kept, fill_events}
+use Rattle.desk.specs.Books.{Kept}
 use Rattle.desk.specs.Effect.{Run, act, closing_of, fill_of_closing, last_prices, position_closed}
 use Rattle.desk.specs.Runs.{Runs}
 use Rattle.desk.specs.Sound.{IsKept, IsSound, AreQuoted}

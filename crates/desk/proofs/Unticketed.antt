@@ -1,9 +1,9 @@
 -- A quote and the end of a pass take no order ticket.
-use Rattle.std.proofs.Common.{◌≡◌, ◌∙◌, ℕ, suc, zero, ◌<◌, ◌≤◌, ◌++◌, Bool, true, false, cond, List, [], ◌∷◌, map, filter, Option, Some, None, Result, Ok, Err, ℤ, refl, ap, sym, subst, arith, eqb}
+use Rattle.std.proofs.Common.{◌≡◌, ◌∙◌, ℕ, suc, zero, ◌≤◌, ◌++◌, Bool, true, false, cond, List, [], ◌∷◌, map, filter, Option, Some, None, ℤ, refl, ap, arith, eqb}
 use Rattle.std.specs.List.{All, fold, flat_map}
 use Rattle.std.specs.Option.{option_map, option_map_or}
 use Rattle.std.specs.Ordering.{int_eq}
-use Rattle.std.specs.Prelude.{IfSome, ◌&&◌, pos, slice_get}
+use Rattle.std.specs.Prelude.{IfSome, pos, slice_get}
 use Rattle.std.proofs.lemmas.List.Sums.{fold-append}
 use Rattle.market_types.specs.declared.quote.Quote.{Quote}
 use Rattle.market_types.specs.declared.symbol_spec.SymbolSpec.{SymbolSpec}
@@ -17,7 +17,7 @@ use Rattle.account.specs.declared.event.Event.TheVariants.{Placed, Modified, Rem
 use Rattle.account.specs.declared.event.RemovalCause.{RemovalCause}
 use Rattle.account.specs.declared.event.RemovalCause.TheVariants as cause
 use Rattle.account.specs.Firing.{expired_orders}
-use Rattle.account.specs.Keyed.{item, put}
+use Rattle.account.specs.Keyed.{item}
 use Rattle.account.specs.Orders.{order_ticket, changed, triggered, is_stop_limit, orders_after, orders_in_force}
 use Rattle.account.specs.Positions.{position_ticket, open_positions, after_deal}
 use Rattle.account.specs.StopOut.{PriceList, worst}
@@ -29,8 +29,8 @@ use Rattle.positions.specs.Fills.{deal_on, levels_of, met, refusal, filled_or, e
 use Rattle.positions.specs.Money.{added_by, has_money_for}
 use Rattle.desk.specs.declared.trigger.Trigger.{Trigger}
 use Rattle.desk.specs.declared.trigger.Trigger.TheVariants as trigger
-use Rattle.desk.specs.Effect.{Run, act, acts, swaps, swaps_of, expiries, removals, events_of_fill, order_filled, order_fired, fill_of_order, fill_of_closing, last_prices, position_closed, on_side, triggered_by, closing_of, stopped_out, swapped_run, expired_run, triggered_run, triggers, stopped_out_run, effect, closing, last_time, with_quote}
-use Rattle.desk.specs.Nights.{swap_amount, swap_event, swap_events, nights_between}
+use Rattle.desk.specs.Effect.{Run, act, acts, swaps, swaps_of, expiries, removals, events_of_fill, order_filled, order_fired, fill_of_order, fill_of_closing, last_prices, position_closed, on_side, triggered_by, closing_of, stopped_out, swapped_run, expired_run, triggered_run, triggers, effect, closing, last_time, with_quote}
+use Rattle.desk.specs.Nights.{swap_amount, swap_event, nights_between}
 use Rattle.desk.specs.State.{Quoted, have_room}
 use Rattle.desk.specs.Tickets.{greater_number, last_after, last_order, next_of}
 use Rattle.desk.proofs.Entered.{greater_left, greater_none}

@@ -1,11 +1,10 @@
 -- The parts of a quote's effect make up the whole.
-use Rattle.std.proofs.Common.{◌≡◌, ◌∙◌, ℕ, suc, zero, ◌++◌, Bool, true, false, cond, List, [], ◌∷◌, Option, Some, None, Result, Ok, Err, ℤ, refl, ap, sym, subst}
+use Rattle.std.proofs.Common.{◌≡◌, ◌∙◌, ℕ, suc, zero, true, false, Some, None, Result, Ok, Err, ℤ, refl, ap, sym, subst}
 use Rattle.std.specs.Option.{option_map_or}
 use Rattle.std.specs.Prelude.{is_err}
 use Rattle.market_types.specs.declared.quote.Quote.{Quote}
 use Rattle.account.specs.declared.account_spec.AccountSpec.{AccountSpec}
 use Rattle.account.specs.declared.deal.DealReason.TheVariants as reason
-use Rattle.account.specs.declared.event.Event.{Event}
 use Rattle.account.specs.Orders.{orders_in_force}
 use Rattle.account.specs.StopOut.{PriceList, worst}
 use Rattle.desk.specs.declared.fault.DeskFault.{DeskFault}
@@ -13,7 +12,6 @@ use Rattle.desk.specs.declared.fault.DeskFault.TheVariants as desk_fault
 use Rattle.desk.specs.Books.{Kept, gained}
 use Rattle.desk.specs.Effect.{Run, act, closing_of, swaps, expiries, swapped_run, expired_run, triggered_run, stopped_out, stopped_out_run, effect, with_quote}
 use Rattle.desk.specs.Runs.{Runs, after_run}
-use Rattle.desk.specs.State.{Quoted}
 use Rattle.desk.proofs.Ended.{IsLike, so_far, run_left, runs_like, act_full, left_ok, after_like}
 
 stopped_full : (spec : AccountSpec) (prices : PriceList) (time_ms : ℤ) (n : ℕ) (run : Run) → run.full ≡ true → stopped_out spec prices time_ms n run ≡ run

@@ -1,12 +1,12 @@
 //! The desk.
-ghost use Rattle.std.specs.Prelude.{◌≡◌, ◌≤◌, ◌<◌, ◌+◌, ◌∷◌, [], length, false, IfOk, All, None};
+ghost use Rattle.std.specs.Prelude.{◌≡◌, ◌≤◌, ◌<◌, ◌+◌, ◌∷◌, [], length, false, IfOk, OnOk, All, None};
 ghost use Rattle.market_types.specs.Ordered.{IsMoment};
 ghost use Rattle.account.specs.declared.event.Event.TheVariants as event;
 ghost use Rattle.account.specs.Journal.{deposit_deal};
 ghost use Rattle.account.specs.Orders.{orders_in_force};
 ghost use Rattle.account.specs.Positions.{open_positions};
 ghost use Rattle.account.specs.Ranges.{IsAccount};
-ghost use Rattle.account.specs.StopOut.{equity};
+ghost use Rattle.account.specs.StopOut.{equity, worst};
 ghost use Rattle.desk.specs.Effect.{last_time};
 ghost use Rattle.desk.specs.Quotes.{MayQuote, Quotes, Closes};
 ghost use Rattle.desk.specs.Requests.{judged, Sends};
@@ -91,13 +91,16 @@ impl<P: PositionRule + Drop> Desk<P> {
 
     /// A loud quote comes: its prices and its time stand from then on, and what it does to the account is
     /// done before an expert sees it: swap, expiry, what fires, stop-out (MetaTrader 5 Help, Types of Orders,
-    /// Stop Loss and Take Profit, Stop Out). `DealsExhausted` exactly where a deal of that would be the
-    /// 50,001st; what was done before stands. After `OutOfMemory` the desk is closed.
+    /// Stop Loss and Take Profit, Stop Out). After `Ok` no stop-out is due. `DealsExhausted` exactly where a
+    /// deal of that would be the 50,001st; what was done before stands. After `OutOfMemory` the desk is
+    /// closed.
     #[tactic(auto, using(crate::proofs::Answered::desk_leaves, crate::proofs::Answered::few_taken, crate::proofs::Unticketed::effect_last))]
     pub fn quote(&mut self, quote: &Quote) -> Result<(), DeskFault>
         requires open { self.old.closed ≡ false }
         requires quote { MayQuote self.old.quoted quote.now }
-        ensures { Quotes self.old quote.now result self.new }
+        ensures effect { Quotes self.old quote.now result self.new }
+        ensures done { OnOk result (worst self.new.quoted.spec self.new.quoted.prices
+            self.new.quoted.events ≡ None) }
     {
         effect(&mut self.books, quote)
     }

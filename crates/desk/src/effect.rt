@@ -1,5 +1,6 @@
 //! The effect of a loud quote: swap, expiry, what fires, stop-out.
-ghost use Rattle.std.specs.Prelude.{◌≡◌, false};
+ghost use Rattle.std.specs.Prelude.{◌≡◌, false, None, OnOk};
+ghost use Rattle.account.specs.StopOut.{worst};
 ghost use Rattle.desk.specs.Effect.{effect, with_quote};
 ghost use Rattle.desk.specs.Quotes.{MayQuote};
 ghost use Rattle.desk.specs.Runs.{Runs};
@@ -21,8 +22,10 @@ pub(crate) fn effect<P: PositionRule + Drop>(
 ) -> Result<(), DeskFault>
     requires whole { books.old.broken ≡ false }
     requires quote { MayQuote books.old.quoted quote.now }
-    ensures { Runs (record books.old { quoted = with_quote quote.now books.old.quoted })
+    ensures runs { Runs (record books.old { quoted = with_quote quote.now books.old.quoted })
         (effect books.old.quoted quote.now) result books.new }
+    ensures done { OnOk result (worst books.new.quoted.spec books.new.quoted.prices
+        books.new.quoted.events ≡ None) }
 {
     if accrue(books, quote).is_err() {
         return Err(DeskFault::OutOfMemory);

@@ -1,4 +1,4 @@
-use Rattle.std.proofs.Common.{◌≡◌, ◌∙◌, Option, Some, None, ℤ, to_z, of_z, w64, sym, subst, refl, rules}
+use Rattle.std.proofs.Common.{◌≡◌, ◌∙◌, Some, None, ℤ, to_z, of_z, w64, sym, subst, refl, rules}
 use Rattle.std.proofs.lemmas.Int.{to_z-of_z}
 use Rattle.account.specs.Keyed.{item}
 use Rattle.account.specs.Positions.{position_ticket, open_positions}

@@ -1,4 +1,4 @@
-use Rattle.std.proofs.Common.{◌≡◌, ◌∙◌, ◌++◌, List, Some, None, slice_get, subst, ap, rules}
+use Rattle.std.proofs.Common.{◌≡◌, ◌∙◌, List, Some, None, slice_get, subst, ap, rules}
 use Rattle.account.specs.declared.order.Order.{Order}
 use Rattle.account.specs.Keyed.{Rising}
 use Rattle.account.specs.Orders.{order_ticket, orders_in_force}
