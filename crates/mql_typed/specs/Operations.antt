@@ -1,11 +1,12 @@
 -- What operations on expressions give, with their typed expressions, one definition an operation (MQL5 Reference,
 -- Language Basics, Operations and Expressions).
-use Rattle.std.specs.Prelude.{ℕ, ℤ, pos, Bool, true, false, [], ◌∷◌, ◌++◌, Option, Some, None, option_map, if◌then◌else◌}
+use Rattle.std.specs.Prelude.{ℕ, ℤ, pos, Bool, true, false, List, [], ◌∷◌, ◌++◌, Option, Some, None, option_map, if◌then◌else◌}
 use Rattle.fx8.specs.declared.int_kind.IntKind.TheVariants as kind
 use Rattle.fx8.specs.declared.int_operator.IntOperator.{IntOperator}
 use Rattle.fx8.specs.declared.int_operator.IntOperator.TheVariants as op
 use Rattle.mql_mean.specs.declared.value.Value.{Value}
 use Rattle.mql_mean.specs.declared.value.Value.TheVariants as value
+use Rattle.mql_meaning.specs.declared.types.VarType.{VarType}
 use Rattle.mql_meaning.specs.declared.types.Sort.{Sort}
 use Rattle.mql_meaning.specs.declared.types.Sort.TheVariants as sort
 use Rattle.mql_meaning.specs.declared.operator.Operator.TheVariants as operator
@@ -26,6 +27,7 @@ use Rattle.mql_types.specs.Types.{element_dimensions, sort_base}
 use Rattle.mql_types.specs.Operators.{bool, binary_sort, result_base, unary_sort, branches}
 use Rattle.mql_typed.specs.declared.info.Info.{Info}
 use Rattle.mql_typed.specs.declared.info.Standing.TheVariants as stand
+use Rattle.mql_typed.specs.declared.binary.Parts.{Parts}
 use Rattle.mql_typed.specs.Typed.{on_one, on_two, value_base, value_of, into_sort, converted, condition, var_type, a_value, a_place}
 
 -- the operator of two numbers or strings that an operator is; `&&` and `||` are none
@@ -103,10 +105,23 @@ abbrev pub postfix_info : Step → Info → Option Info
 postfix_info step.Increment i = bumped bump.MoreAfter i
 postfix_info step.Decrement i = bumped bump.LessAfter i
 
--- `&&` and `||`: the second is looked at where the first does not decide
 abbrev pub a_truth : Bool → Expression
 a_truth b = expression.Constant (value.Num kind.Bool (truth b))
 
+-- the parts of a choice, with the locals that they take, one after another, and the choice
+abbrev pub no_parts : Parts
+no_parts = record { typed = []; kept = [] }
+
+abbrev pub with_part : Parts → Expression → List VarType → Parts
+with_part p e kept = record { typed = p.typed ++ e ∷ []; kept = p.kept ++ kept }
+
+abbrev pub with_truth : Parts → Bool → Parts
+with_truth p b = record { typed = p.typed ++ a_truth b ∷ []; kept = p.kept }
+
+abbrev pub chosen : Base → Parts → Info
+chosen b p = a_value b p.kept (expression.Choose p.typed)
+
+-- `&&` and `||`: the second is looked at where the first does not decide
 abbrev pub both : Info → Info → Info
 both i j =
     a_value bool (i.kept ++ j.kept) (expression.Choose (condition i ∷ condition j ∷ a_truth false ∷ []))
@@ -135,7 +150,7 @@ binary_info o i j = on (int_operator o) (λ q. by_operator q i j)
 -- `?:`: the branches are taken into their common type
 abbrev pub choice : Info → Info → Info → Base → Info
 choice test i j b =
-    a_value b (test.kept ++ (i.kept ++ j.kept))
+    a_value b ((test.kept ++ i.kept) ++ j.kept)
     (expression.Choose (condition test ∷ converted b i ∷ converted b j ∷ []))
 
 abbrev pub branch_base : Info → Info → Option Base
@@ -145,9 +160,11 @@ abbrev pub conditional_info : Info → Info → Info → Option Info
 conditional_info test i j = option_map (choice test i j) (branch_base i j)
 
 -- assignments: the right side first; the value is of the place's type
+abbrev pub assigned : Info → Info → Base → Info
+assigned i j b = a_value b (i.kept ++ j.kept) (on_two operator.Keep (converted b j) i.typed)
+
 abbrev pub assign_info : Info → Info → Option Info
-assign_info i j =
-    on_base i (λ b. Some (a_value b (i.kept ++ j.kept) (on_two operator.Keep (converted b j) i.typed)))
+assign_info i j = option_map (assigned i j) (value_base i)
 
 abbrev pub updated : IntOperator → Info → Info → Base → Sort → Info
 updated o i j b s = a_value b (i.kept ++ j.kept) (on_two (operator.Update o s) (into_sort s j) i.typed)
@@ -162,26 +179,31 @@ update_info o i j = on (int_operator o) (λ q. update_by q i j)
 abbrev pub element_type : DataType → DataType
 element_type t = record { base = t.base; dimensions = element_dimensions t.dimensions }
 
+abbrev pub element_at : Info → Info → DataType → Info
+element_at i j t =
+    a_place (element_type t) i.standing (i.kept ++ j.kept) (on_two operator.Index i.typed (value_of j))
+
 abbrev pub index_info : Info → Info → Option Info
-index_info i j =
-    option_map (λ (t : DataType).
-    a_place (element_type t) i.standing (i.kept ++ j.kept) (on_two operator.Index i.typed (value_of j))) i.of
+index_info i j = option_map (element_at i j) i.of
 
 -- a field; a structure that is no place is kept in a local of its own first
 abbrev pub local : ℕ → Expression
 local n = expression.Apply (operator.Local n) []
 
-abbrev pub keeps : ℕ → Info → Expression
-keeps n i = on_two operator.Keep i.typed (local n)
+abbrev pub field_of_local : ℕ → ℕ → Expression → Expression
+field_of_local l n e =
+    expression.After (on_two operator.Keep e (local l) ∷ []) (on_one (operator.Field n) (local l) ∷ [])
 
 abbrev pub kept_field : ℕ → ℕ → DataType → DataType → Info → Info
 kept_field l n whole t i =
-    a_place t stand.Kept (i.kept ++ var_type whole ∷ [])
-    (expression.After (keeps l i ∷ []) (on_one (operator.Field n) (local l) ∷ []))
+    a_place t stand.Kept (i.kept ++ var_type whole ∷ []) (field_of_local l n i.typed)
 
 abbrev pub placed_field : ℕ → DataType → Info → Info
 placed_field n t i = a_place t i.standing i.kept (on_one (operator.Field n) i.typed)
 
 -- a value taken into a type
+abbrev pub cast_to : Info → Base → Info
+cast_to i b = a_value b i.kept (converted b i)
+
 abbrev pub cast_info : Option Base → Info → Option Info
-cast_info b i = option_map (λ t. a_value t i.kept (converted t i)) b
+cast_info b i = option_map (cast_to i) b
