@@ -75,7 +75,9 @@ use Rattle.mql_expressions.specs.Rules.{no_fit}
 use Rattle.mql_expressions.specs.Values.{found, broken_at, innermost}
 use Rattle.mql_statements.specs.Initialisers.{Begun, started, start_constant}
 use Rattle.mql_statements.specs.Closing.{closes}
-use Rattle.mql_statements.specs.Statements.{Told, Static, declared_standing, variable_type, evaluated, dimensions_used, told_all}
+use Rattle.mql_statements.specs.declared.told.Static.{Static}
+use Rattle.mql_statements.specs.declared.told.Told.{Told}
+use Rattle.mql_statements.specs.Statements.{declared_standing, variable_type, evaluated, dimensions_used, told_all}
 
 -- What typing takes from elsewhere: the constant that an expression is, if it is one, by what the names of the
 -- program mean and the members of its enumerations; a constant taken into a type; the line and the file of a node.
