@@ -39,6 +39,7 @@ place_ready q time_ms place kind t r a s h =
         priced = hold.1.1.1.1.0;
         some = v.some;
         most = v.most;
+        from = omega arith;
         ticket = greater_right (last_order q.events) (last_order q.events + 1);
       };
       fresh = fresh_order q.spec q.prices (last_order q.events) (last_order q.events + 1) (orders_in_force q.events) (omega arith) s.orders;

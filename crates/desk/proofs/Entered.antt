@@ -68,6 +68,7 @@ standing_on spec prices last last' o h i = record {
   priced = i.priced;
   some = i.some;
   most = i.most;
+  from = i.from;
   ticket = omega (arith, i.ticket, h);
 }
 
@@ -80,11 +81,11 @@ all_held spec prices times last n ps all = λ i d e. (all i d e).held
 -- an order that is changed or triggered stands as before
 changed_standing : (spec : AccountSpec) (prices : PriceList) (last : ℕ) (new : Order) (o : Option Order) → IfSome o (IsStanding spec prices last) → IfSome (option_map (changed new) o) (IsStanding spec prices last)
 changed_standing spec prices last new None h = tt
-changed_standing spec prices last new (Some o) h = record { symbol = h.symbol; priced = h.priced; some = h.some; most = h.most; ticket = h.ticket }
+changed_standing spec prices last new (Some o) h = record { symbol = h.symbol; priced = h.priced; some = h.some; most = h.most; from = h.from; ticket = h.ticket }
 
 triggered_one : (spec : AccountSpec) (prices : PriceList) (last : ℕ) (o : Order) → IsStanding spec prices last o → IsStanding spec prices last (triggered o)
 triggered_one spec prices last o h = elim (is_stop_limit o.kind) as (λ b. IsStanding spec prices last (cond b (record o { kind = triggered_kind o.kind; price = o.stoplimit; stoplimit = pos 0 }) o)) [
-  | true ↦ record { symbol = h.symbol; priced = h.priced; some = h.some; most = h.most; ticket = h.ticket }
+  | true ↦ record { symbol = h.symbol; priced = h.priced; some = h.some; most = h.most; from = h.from; ticket = h.ticket }
   | false ↦ h
 ]
 

@@ -154,7 +154,7 @@ sole_on specs f ps o n at = record {
 }
 
 -- where a fill meets no position under netting, there is none on its symbol
-none_found : (ps : List Position) (s t : ℕ) (r : Position) → find (λ p. eqb p.symbol s) ps ≡ None → item position_ticket t ps ≡ Some r → r.symbol ≡ s → ⊥
+pub none_found : (ps : List Position) (s t : ℕ) (r : Position) → find (λ p. eqb p.symbol s) ps ≡ None → item position_ticket t ps ≡ Some r → r.symbol ≡ s → ⊥
 none_found [] s t r n e h = cc
 none_found (p ∷ ps) s t r n e h =
     (elim (eqb p.symbol s) as (λ b. eqb p.symbol s ≡ b → cond b (Some p) (find (λ p. eqb p.symbol s) ps) ≡ None → ⊥) [

@@ -129,7 +129,7 @@ accepted hedging ps order deal time_ms place pair r o s v =
     found (Some p) e h g k = accepted_some hedging p (fill_of order deal time_ms place pair r) r (open_some place p r e h) (other hedging p r e g) (enough hedging p r e k)
 
 -- what the fill meets is of its symbol
-found_symbol : (ps : List Position) (place : ℕ) → IfSome (find (λ p. eqb p.symbol place) ps) (λ p. p.symbol ≡ place)
+pub found_symbol : (ps : List Position) (place : ℕ) → IfSome (find (λ p. eqb p.symbol place) ps) (λ p. p.symbol ≡ place)
 found_symbol [] place = tt
 found_symbol (p ∷ ps) place =
     (elim (eqb p.symbol place) as (λ b. eqb p.symbol place ≡ b → IfSome (cond b (Some p) (find (λ p. eqb p.symbol place) ps)) (λ p. p.symbol ≡ place)) [
@@ -159,7 +159,7 @@ pub price_fits : (b : Bool) (pair : ℤ × ℤ) → ArePrices pair → FitsSigne
 price_fits true pair h = omega (arith, ints, h.0.above, h.0.most)
 price_fits false pair h = omega (arith, ints, h.1.above, h.1.most)
 
-modest_all : (f : Fill) (o : Option Position) → f.volume ≤ℤ pos (10 ^ 11) → IsModest f o
+pub modest_all : (f : Fill) (o : Option Position) → f.volume ≤ℤ pos (10 ^ 11) → IsModest f o
 modest_all f None h = h
 modest_all f (Some p) h = (λ e. h, λ e. h)
 

@@ -2,6 +2,7 @@
 use Rattle.std.proofs.Common.{◌≡◌, ◌∙◌, ℕ, ◌++◌, Bool, true, false, cond, List, [], ◌∷◌, fold, Option, Some, None, refl, ap, sym, ◌&&◌}
 use Rattle.std.specs.Ordering.{int_eq}
 use Rattle.std.proofs.lemmas.List.Sums.{fold-append}
+use Rattle.market_types.specs.declared.quote.Quote.{Quote}
 use Rattle.market_types.specs.declared.symbol_spec.SymbolSpec.{SymbolSpec}
 use Rattle.account.specs.declared.account_spec.AccountSpec.{AccountSpec}
 use Rattle.account.specs.declared.order.Order.{Order}
@@ -17,6 +18,7 @@ use Rattle.account.specs.Positions.{positions_after, after_deal, open_positions}
 use Rattle.positions.specs.declared.fill.Fill.{Fill}
 use Rattle.positions.specs.declared.fill.Levels.{Levels}
 use Rattle.positions.specs.Fills.{deal_on, met, levels_of, stops_event}
+use Rattle.desk.specs.Effect.{with_quote}
 use Rattle.desk.specs.State.{Quoted}
 use Rattle.desk.specs.Books.{with_more, IsRuleOf, IsInStep, fill_events}
 use Rattle.desk.specs.Tickets.{greater_number, last_after, last_order, order_of_event}
@@ -46,7 +48,7 @@ stops_orders : (os : List Order) (o : Option Position) (l : Levels) → fold ord
 stops_orders os None l = refl
 stops_orders os (Some p) l = elim (int_eq p.sl l.sl && int_eq p.tp l.tp) as (λ b. fold orders_after os (cond b [] (Stops p.ticket l.sl l.tp ∷ [])) ≡ os) [ true ↦ refl | false ↦ refl ]
 
-stops_last : (n : ℕ) (o : Option Position) (l : Levels) → fold last_after n (stops_event o l) ≡ n
+pub stops_last : (n : ℕ) (o : Option Position) (l : Levels) → fold last_after n (stops_event o l) ≡ n
 stops_last n None l = refl
 stops_last n (Some p) l = elim (int_eq p.sl l.sl && int_eq p.tp l.tp) as (λ b. fold last_after n (cond b [] (Stops p.ticket l.sl l.tp ∷ [])) ≡ n) [ true ↦ refl | false ↦ greater_none n ]
 
@@ -82,3 +84,7 @@ step_begun hedging specs ps spec q k s p a e = record {
 pub of_modified : (os : List Order) (new : Order) (r : Result (Unit {0}) BookFault) (after : List Order) → is_err r ≡ false → IsModified os new r after → after ≡ orders_after os (Modified new)
 of_modified os new (Ok x) after e h = h.1
 of_modified os new (Err x) after e h = cc
+
+-- a loud quote
+pub step_quoted : (hedging : Bool) (specs : List SymbolSpec) (ps : List Position) (os : List Order) (last : ℕ) (q q' : Quoted) (quote : Quote) → IsInStep hedging specs ps os last q → q' ≡ with_quote quote q → IsInStep hedging specs ps os last q'
+step_quoted hedging specs ps os last q q' quote i e = rw e (record { rule = record { kind = i.rule.kind; symbols = i.rule.symbols; positions = i.rule.positions }; orders = i.orders; ticket = i.ticket })

@@ -22,7 +22,8 @@ abbrev pub with_more : List Event → Quoted → Quoted
 with_more more q = record q { events = q.events ++ more }
 
 -- a rule of positions has the kind, the symbols and the open positions of a ledger
-pub record IsRuleOf (hedging : Bool) (specs : List SymbolSpec) (ps : List Position) (q : Quoted) : Type 0 where
+pub record IsRuleOf (hedging : Bool) (specs : List SymbolSpec) (ps : List Position)
+    (q : Quoted) : Type 0 where
   pub kind : hedging ≡ q.spec.hedging
   pub symbols : specs ≡ q.spec.specs
   pub positions : ps ≡ open_positions q.events

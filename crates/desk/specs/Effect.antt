@@ -141,19 +141,19 @@ abbrev pub events_of_fill : AccountSpec → List Event → Fill → List Event
 events_of_fill spec events f = added_by (filled spec.hedging spec.specs (open_positions events) f)
 
 -- a fired order is filled where there is money for its deal, else removed
-abbrev pub order_filled : AccountSpec → PriceList → List Event → Order → Fill → List Event
-order_filled spec prices events o f =
+abbrev pub order_filled : AccountSpec → PriceList → Fill → List Event → List Event
+order_filled spec prices f events =
     if has_money_for spec prices events f
-    then event.Removed o.ticket cause.Filled ∷ events_of_fill spec events f
-    else event.Removed o.ticket cause.NoMoney ∷ []
+    then event.Removed f.order cause.Filled ∷ events_of_fill spec events f
+    else event.Removed f.order cause.NoMoney ∷ []
 
 -- a fired stop-limit order becomes a limit order, any other is filled
 abbrev pub order_fired : AccountSpec → PriceList → ℤ → List Event → Option Order → List Event
 order_fired spec prices time_ms events None = []
 order_fired spec prices time_ms events (Some o) =
     if is_stop_limit o.kind then event.Triggered o.ticket ∷ []
-    else order_filled spec prices events o
-    (fill_of_order (next_of events).deal time_ms (last_prices prices o.symbol) o)
+    else order_filled spec prices
+    (fill_of_order (next_of events).deal time_ms (last_prices prices o.symbol) o) events
 
 -- a position that is open is closed
 abbrev pub position_closed : AccountSpec → PriceList → ℤ → DealReason → List Event → Option Position →

@@ -1,7 +1,10 @@
 pub mod Books
 pub mod Effect
+pub mod Firing
 pub mod Nights
+pub mod Quotes
 pub mod Requests
+pub mod Runs
 pub mod Sound
 pub mod State
 pub mod Tickets

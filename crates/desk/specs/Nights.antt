@@ -46,3 +46,7 @@ swap_event s nights p =
 -- the swap of the positions of a symbol at a place, in the order of their tickets
 abbrev pub swap_events : SymbolSpec → ℕ → ℕ → List Position → List Event
 swap_events s place nights ps = flat_map (swap_event s nights) (filter (λ p. p.symbol == place) ps)
+
+-- the event of an amount that the position of a ticket accrues
+abbrev pub accrual : ℕ × ℤ → Event
+accrual swap = event.Swap swap.0 swap.1

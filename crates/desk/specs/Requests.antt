@@ -116,8 +116,8 @@ IsReady q (act.Remove t) = ⊤
 IsReady q (act.SetStops t sl tp) = ⊤
 IsReady q (act.CloseBy one other at) = IsPairable q one other at
 
--- what `send` answers and leaves: the outcome; at the request past the last `RequestsExhausted`, and where the
--- deals find no room `DealsExhausted`, and then nothing changes
+-- what `send` answers and leaves: the outcome; at the request past the last `RequestsExhausted`, and where
+-- the deals find no room `DealsExhausted`, and then nothing changes
 abbrev pub Sends : DeskState → Outcome → Result Answer DeskFault → DeskState → Type 0
 Sends a o (Ok answer) a' =
     (a.requests < most_requests) × (have_room a.quoted.events o.events ≡ true) × (answer ≡ o.answer)

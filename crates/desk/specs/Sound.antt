@@ -55,6 +55,7 @@ pub record IsStanding (spec : AccountSpec) (prices : PriceList) (last : ℕ) (o 
   pub priced : is_some (prices_at prices o.symbol) ≡ true
   pub some : pos 0 <ℤ o.volume
   pub most : o.volume ≤ℤ pos most_volume
+  pub from : 0 < o.ticket
   pub ticket : o.ticket ≤ last
 
 -- the net of a deal is small
@@ -77,8 +78,8 @@ pub record IsTidy (hedging : Bool) (os : List Order) (ps : List Position) : Type
   pub apart : AreApart os ps
   pub unique : hedging ≡ false → IsUnique ps
 
--- what a change at a ticket leaves there is of the symbol of what stood there, or where nothing stood of a symbol
--- that no position has
+-- what a change at a ticket leaves there is of the symbol of what stood there, or where nothing stood of a
+-- symbol that no position has
 pub record IsSole (ps : List Position) (u : ℕ) (new : Option Position) : Type 0 where
   pub kept : (p q : Position) → item position_ticket u ps ≡ Some p → new ≡ Some q → q.symbol ≡ p.symbol
   pub sole : (q r : Position) (t : ℕ) → item position_ticket u ps ≡ None → new ≡ Some q →

@@ -17,8 +17,8 @@ pub record Quoted : Type 0 where
 abbrev pub journal_of : Quoted → Journal
 journal_of q = record { spec = q.spec; events = q.events }
 
--- what contracts see of a desk: what it keeps, how many requests were answered, and whether it is closed, as it
--- is after want of memory
+-- what contracts see of a desk: what it keeps, how many requests were answered, and whether it is closed, as
+-- it is after want of memory
 pub record DeskState : Type 0 where
   pub quoted : Quoted
   pub requests : ℕ

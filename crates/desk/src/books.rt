@@ -1,11 +1,13 @@
 //! A ledger, its positions and its orders, in step.
-ghost use Rattle.std.specs.Prelude.{◌≡◌, ◌++◌, ◌∷◌, ◌≤◌, ◌<◌, ◌+◌, ◌^◌, [], length, OnOk, OnErr, IfOk, All, None, true, false};
+ghost use Rattle.std.specs.Prelude.{◌≡◌, ◌++◌, ◌∷◌, ◌≤◌, ◌<◌, ◌+◌, ◌^◌, [], length, slice_get, OnOk, OnErr, IfOk, All, None, Some, true, false};
 ghost use Rattle.account.specs.declared.event.Event.TheVariants as event;
 ghost use Rattle.account.specs.Deals.{deals};
 ghost use Rattle.account.specs.Journal.{deposit_deal};
 ghost use Rattle.account.specs.Orders.{orders_in_force};
 ghost use Rattle.account.specs.Ranges.{IsAccount};
 ghost use Rattle.desk.specs.Books.{IsRuleOf, IsFillable, IsPlaceable, IsChangeable, IsPairable, with_more, fill_events, pair_events, gained, Kept};
+ghost use Rattle.desk.specs.Effect.{last_time, with_quote};
+ghost use Rattle.desk.specs.Quotes.{MayQuote};
 ghost use Rattle.desk.specs.State.{most_deals, journal_of};
 ghost use Rattle.desk.specs.Sound.{IsSound, AreQuoted, MayEnter};
 ghost use Rattle.desk.specs.Tickets.{greater_number, last_order, next_of};
@@ -15,6 +17,7 @@ use crate::quoted::QuotedLedger;
 use account::{AccountSpec, Event, Ledger, Order, Prices, RemovalCause};
 use fx8::{Fix8, ItemList, Money, OutOfMemory};
 use judgement::Next;
+use market_types::Quote;
 use order_book::Orders;
 use positions::{Fill, PositionRule};
 use std::alloc::Global;
@@ -169,6 +172,30 @@ impl<P: PositionRule + Drop> Books<P> {
         &self.rule
     }
 
+    /// When the last loud quote of a symbol came.
+    pub(crate) fn time_of(&self, symbol: u8) -> Option<i64>
+        requires { symbol < length self.now.quoted.spec.specs }
+        ensures { slice_get self.now.quoted.times symbol ≡ Some result }
+    {
+        self.quoted.time_of(symbol)
+    }
+
+    /// When the last loud quote came, 0 before the first.
+    pub(crate) fn last_time(&self) -> i64
+        ensures { result ≡ last_time self.now.quoted.times }
+    {
+        self.quoted.last_time()
+    }
+
+    /// The prices and the time of a loud quote stand from then on.
+    #[tactic(auto, using(crate::proofs::Stepping::step_quoted))]
+    pub(crate) fn set_quote(&mut self, quote: &Quote)
+        requires { MayQuote self.old.quoted quote.now }
+        ensures { self.new ≡ record self.old { quoted = with_quote quote.now self.old.quoted } }
+    {
+        self.quoted.set_quote(quote);
+    }
+
     /// How many deals there are.
     pub(crate) fn deals(&self) -> u64
         ensures { result ≡ length (deals self.now.quoted.events) }
@@ -279,6 +306,20 @@ impl<P: PositionRule + Drop> Books<P> {
         Ok(())
     }
 
+    /// Makes a stop-limit order a limit order.
+    #[tactic(auto, using(crate::proofs::Stepping::step_quiet))]
+    pub(crate) fn trigger(&mut self, ticket: u64) -> Result<(), OutOfMemory>
+        requires whole { self.old.broken ≡ false }
+        ensures ok { OnOk result (self.new ≡ gained (event.Triggered ticket ∷ []) self.old) }
+        ensures err { OnErr result (self.new.broken ≡ true) }
+    {
+        self.broken = true;
+        let _stands = self.orders.trigger(ticket);
+        self.quoted.enter(Event::Triggered(ticket))?;
+        self.broken = false;
+        Ok(())
+    }
+
     /// Sets the stops of a position.
     #[tactic(auto, using(crate::proofs::Stepping::step_quiet))]
     pub(crate) fn set_stops(&mut self, ticket: u64, sl: Fix8, tp: Fix8) -> Result<(), OutOfMemory>
@@ -289,6 +330,23 @@ impl<P: PositionRule + Drop> Books<P> {
         self.broken = true;
         let _open = self.rule.set_stops(ticket, sl, tp);
         self.quoted.enter(Event::Stops { ticket, sl, tp })?;
+        self.broken = false;
+        Ok(())
+    }
+
+    /// A position accrues swap.
+    #[tactic(auto, using(crate::proofs::Stepping::step_quiet, crate::proofs::Accrued::may_accrue))]
+    pub(crate) fn add_swap(&mut self, ticket: u64, amount: Money) -> Result<(), OutOfMemory>
+        requires whole { self.old.broken ≡ false }
+        requires may { MayEnter self.old.quoted.spec self.old.quoted.prices self.old.quoted.times
+            self.old.quoted.events (event.Swap ticket amount) }
+        ensures ok { OnOk result (self.new ≡ gained (event.Swap ticket amount ∷ []) self.old) }
+        ensures err { OnErr result (self.new.broken ≡ true) }
+    {
+        self.broken = true;
+        self.quoted.is_sound();
+        let _open = self.rule.add_swap(ticket, amount);
+        self.quoted.enter(Event::Swap { ticket, amount })?;
         self.broken = false;
         Ok(())
     }

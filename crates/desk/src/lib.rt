@@ -2,11 +2,19 @@
 #![tactic(auto)]
 
 mod books;
+mod closing;
 mod copies;
 mod desk;
+mod effect;
+mod ending;
+mod expiry;
 mod fault;
+mod fired;
+mod firing;
 mod quoted;
 mod requests;
+mod stop_out;
+mod swap;
 mod trigger;
 
 pub use desk::Desk;

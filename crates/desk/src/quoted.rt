@@ -5,13 +5,27 @@ ghost use Rattle.account.specs.Deals.{deals};
 ghost use Rattle.account.specs.Ranges.{IsAccount};
 ghost use Rattle.account.specs.Journal.{deposit_deal};
 ghost use Rattle.account.specs.declared.event.Event.TheVariants as event;
+ghost use Rattle.desk.specs.Effect.{later, last_time, with_quote};
 ghost use Rattle.desk.specs.State.{Quoted, journal_of};
 ghost use Rattle.desk.specs.Sound.{IsSound, AreQuoted, MayEnter, MayFollow};
+ghost use Rattle.desk.specs.Quotes.{MayQuote};
 
 use account::{AccountSpec, Event, EventList, Ledger, Prices};
 use fx8::OutOfMemory;
+use market_types::Quote;
 use std::alloc::Global;
 use std::marker::Model;
+
+/// The later of a time and one that may not be.
+#[tactic(auto, unfolding(account::specs::Statistics::greater))]
+fn later(time: i64, other: Option<i64>) -> i64
+    ensures { result ≡ later time other }
+{
+    match other {
+        Some(other) => if time < other { other } else { time },
+        None => time,
+    }
+}
 
 /// A ledger with the last loud Bid and Ask of each symbol and when they came.
 #[derive(Debug, Drop)]
@@ -87,6 +101,29 @@ impl QuotedLedger {
         ensures { slice_get self.now.times symbol ≡ Some result }
     {
         self.times[symbol as usize]
+    }
+
+    /// When the last loud quote came, 0 before the first.
+    pub(crate) fn last_time(&self) -> i64
+        ensures { result ≡ last_time self.now.times }
+    {
+        let mut last = 0;
+        let mut rest = self.times.as_slice();
+        while let Some((time, others)) = rest.split_first() {
+            last = later(last, *time);
+            rest = others;
+        }
+        last
+    }
+
+    /// The prices and the time of a loud quote stand from then on.
+    #[tactic(auto, using(crate::proofs::Quoting::quoted_on))]
+    pub(crate) fn set_quote(&mut self, quote: &Quote)
+        requires { MayQuote self.old quote.now }
+        ensures { self.new ≡ with_quote quote.now self.old }
+    {
+        self.prices.set(quote.symbol, quote.bid, quote.ask);
+        self.times[quote.symbol as usize] = Some(quote.time_ms);
     }
 
     /// Adds an event. A refused call adds none.

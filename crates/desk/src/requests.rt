@@ -58,7 +58,7 @@ fn answer_to(fill: &Fill) -> Answer
 }
 
 /// Whether no more deal may be added.
-fn is_full<P: PositionRule + Drop>(books: &Books<P>) -> bool
+pub(crate) fn is_full<P: PositionRule + Drop>(books: &Books<P>) -> bool
     ensures full { result ≡ true → 50000 ≤ length (deals books.now.quoted.events) }
     ensures room { result ≡ false → length (deals books.now.quoted.events) < 50000 }
 {
@@ -222,7 +222,7 @@ fn do_stops<P: PositionRule + Drop>(
 }
 
 /// There is no memory: the books are closed for good.
-fn close<P: PositionRule + Drop>(books: &mut Books<P>) -> DeskFault
+pub(crate) fn close<P: PositionRule + Drop>(books: &mut Books<P>) -> DeskFault
     ensures fault { result ≡ fault.OutOfMemory }
     ensures closed { books.new.broken ≡ true }
 {
@@ -234,8 +234,8 @@ fn close<P: PositionRule + Drop>(books: &mut Books<P>) -> DeskFault
 fn do_act<P: PositionRule + Drop>(books: &mut Books<P>, act: Act) -> Result<Answer, DeskFault>
     requires whole { books.old.broken ≡ false }
     requires ready { IsReady books.old.quoted act }
-    ensures { Answers books.old (outcome_of books.old.quoted.spec (open_positions books.old.quoted.events) act)
-        result books.new }
+    ensures { Answers books.old (outcome_of books.old.quoted.spec (open_positions books.old.quoted.events)
+        act) result books.new }
 {
     match act {
         Act::Deal(fill) => do_deal(books, &fill),

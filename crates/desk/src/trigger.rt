@@ -1,4 +1,6 @@
 //! What a quote fires.
+ghost use Rattle.std.specs.Prelude.{◌≡◌};
+ghost use Rattle.desk.specs.Effect.{ticket_of};
 
 use account::DealReason;
 
@@ -13,4 +15,16 @@ pub enum Trigger {
         buy: bool,
         reason: DealReason,
     },
+}
+
+impl Trigger {
+    /// The ticket of the order or position.
+    pub fn ticket(&self) -> u64
+        ensures { result ≡ ticket_of self.now }
+    {
+        match self {
+            Trigger::Order(ticket) => *ticket,
+            Trigger::Stop { ticket, .. } => *ticket,
+        }
+    }
 }

@@ -1,5 +1,6 @@
--- Functions that are used and have no body (MQL5 Reference, Functions, Function Call; Event Handling). Which of several functions of one
--- name a call chooses is no matter of this rule: where one of them has a body, nothing is told.
+-- Functions that are used and have no body (MQL5 Reference, Functions, Function Call; Event Handling). Which
+-- of several functions of one name a call chooses is no matter of this rule: where one of them has a body,
+-- nothing is told.
 use Rattle.std.specs.Prelude.{Bool, true, false, ◌&&◌, ◌||◌, bytes_eq, List, [], ◌∷◌, flat_map, Option, Some, None, if◌then◌else◌}
 use Rattle.mql_syntax.specs.declared.kind.Place.{Place}
 use Rattle.mql_syntax.specs.declared.value.Operation.{Operation}

@@ -3,7 +3,6 @@ ghost use Rattle.std.specs.Prelude.{◌≡◌, List, ◌++◌, ◌∷◌, [], If
 ghost use Rattle.std.specs.List.{flat_map};
 ghost use Rattle.mql_syntax.specs.declared.declaration.Function.{Function};
 ghost use Rattle.mql_names.specs.Faults.{told};
-ghost use Rattle.mql_names.specs.Scopes.{is_among};
 ghost use Rattle.mql_walk.specs.Things.{things_of, told_by};
 ghost use Rattle.mql_bodies.specs.Bodies as spec;
 ghost use Rattle.mql_bodies.specs.Maps.{known_at, with_one, bodiless_of, bodiless_at, Holds};
@@ -13,7 +12,7 @@ use mql_names::{Broken, break_if, event_of, is_defined};
 use mql_syntax::{
     Class, Function, Item, Member, Operation, Place, StatementKind, Syntax, TypeUse, Variable,
 };
-use mql_walk::{Judge, judged};
+use mql_walk::{Judge, is_local, judged};
 use std::alloc::Global;
 use std::collections::BTreeMap;
 
@@ -123,20 +122,6 @@ fn broken_at(place: Option<Place>) -> Option<Broken>
         None => None,
         Some(of) => break_if(true, 9, of),
     }
-}
-
-/// Whether a name is among the names of locals.
-fn is_local(locals: &[Text], name: &[u16]) -> bool
-    ensures { result ≡ is_among name.now locals.now }
-{
-    let mut rest = locals;
-    while let [local, others @ ..] = rest {
-        if local.as_slice() == name {
-            return true;
-        }
-        rest = others;
-    }
-    false
 }
 
 fn name_told(functions: &Functions<'_>, locals: &[Text], name: &[u16]) -> Option<Broken>

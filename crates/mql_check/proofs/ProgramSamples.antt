@@ -14,6 +14,7 @@ use Rattle.mql_syntax.specs.declared.statement.Statement.TheVariants as stated
 use Rattle.mql_syntax.specs.declared.statement.Statement.TheBlock as StatementRow
 use Rattle.mql_syntax.specs.declared.kind.StatementKind.TheVariants as stating
 use Rattle.mql_syntax.specs.declared.kind.BinaryOperator.TheVariants.{Remainder}
+use Rattle.mql_syntax.specs.declared.value.Operation.{Operation}
 use Rattle.mql_syntax.specs.declared.value.Operation.TheVariants as operation
 use Rattle.mql_syntax.specs.declared.declaration.Words.{Words}
 use Rattle.mql_syntax.specs.declared.declaration.Variable.{Variable}
@@ -24,6 +25,12 @@ use Rattle.mql_syntax.specs.declared.declaration.Start.TheVariants as start
 use Rattle.mql_syntax.specs.declared.declaration.Body.{Body}
 use Rattle.mql_syntax.specs.declared.declaration.Body.TheVariants as body
 use Rattle.mql_syntax.specs.declared.declaration.Function.{Function}
+use Rattle.mql_syntax.specs.declared.declaration.Member.{Member}
+use Rattle.mql_syntax.specs.declared.declaration.Member.TheVariants as members
+use Rattle.mql_syntax.specs.declared.declaration.Parent.{Parent}
+use Rattle.mql_syntax.specs.declared.kind.Access.{Access}
+use Rattle.mql_syntax.specs.declared.kind.Access.TheVariants as accesses
+use Rattle.mql_syntax.specs.declared.kind.ClassKind.TheVariants as class_kinds
 use Rattle.mql_syntax.specs.declared.declaration.Item.{Item}
 use Rattle.mql_syntax.specs.declared.declaration.Item.TheVariants as item
 use Rattle.mql_syntax.specs.declared.declaration.Syntax.{Syntax}
@@ -140,6 +147,50 @@ global_seen : judges (item.Variable (variable 1 words (double 1) (codes "i") [] 
     ≡ Some (record { rule = 15; node = 5; first = 5 })
 unfolding judges function variable double words given
 global_seen = refl
+
+-- struct A { int x; }; struct B : A { int y; }; void f() { B b; b.x % 2; } is none; where A is taken privately it is 3;
+-- struct B : A { double x; } hides the integer, so b.x % 2 is 15; b.z is 2
+named : ℕ → List ℕ → TypeUse
+named n x = type.Named (at n) x false []
+
+structure : ℕ → List ℕ → Option Parent → TypeUse → List ℕ → Item
+structure n x parent t field =
+    item.Class (record {
+      place = at n;
+      nodes = 1;
+      types = [];
+      kind = class_kinds.Struct;
+      name = x;
+      parent = parent;
+      defined = true;
+      members = members.Variable accesses.Public (variable n words t field [] start.Zero) ∷ [];
+    })
+
+child : Option Access → TypeUse → List ℕ → List ℕ → Operation → List Item
+child a t field asked what =
+    structure 1 (codes "A") None (int 1) (codes "x")
+    ∷ structure 2 (codes "B") (Some (record { access = a; of = named 2 (codes "A") })) t field
+    ∷ function 3 (codes "f") None
+    (declares 4 (variable 4 words (named 4 (codes "B")) (codes "b") [] start.Zero)
+    ∷ statement 5 stating.Evaluation (node 6 what (node 7 (operation.Member asked) (name 7 (codes "b") ∷ []) ∷ number 6 2 ∷ []) ∷ []) []
+    ∷ [])
+    ∷ []
+
+inherits : judges (child None (int 2) (codes "y") (codes "x") (operation.Binary Remainder)) ≡ None
+unfolding judges child structure named function declares variable int words given
+inherits = refl
+
+taken_privately : judges (child (Some accesses.Private) (int 2) (codes "y") (codes "x") (operation.Binary Remainder)) ≡ Some (record { rule = 3; node = 7; first = 7 })
+unfolding judges child structure named function declares variable int words given
+taken_privately = refl
+
+own_hides : judges (child None (double 2) (codes "x") (codes "x") (operation.Binary Remainder)) ≡ Some (record { rule = 15; node = 6; first = 6 })
+unfolding judges child structure named function declares variable int double words given
+own_hides = refl
+
+no_field : judges (child None (int 2) (codes "y") (codes "z") (operation.Binary Remainder)) ≡ Some (record { rule = 2; node = 7; first = 7 })
+unfolding judges child structure named function declares variable int words given
+no_field = refl
 
 -- int f(int a); int f(double a) { return 1; } void g() { f(1); }: the first is called and has no body; f(1.5) calls the second
 announces : ℕ → List ℕ → TypeUse → Body → Item

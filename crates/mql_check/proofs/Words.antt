@@ -36,7 +36,8 @@ use Rattle.mql_typed.specs.declared.info.Standing.{Standing}
 use Rattle.mql_typed.specs.declared.info.Standing.TheVariants as stand
 use Rattle.mql_scope.specs.Contexts.{Text, Program, Context}
 use Rattle.mql_expressions.specs.Values.{Found, found}
-use Rattle.mql_statements.specs.Statements.{Told, told}
+use Rattle.mql_statements.specs.declared.told.Told.{Told}
+use Rattle.mql_statements.specs.Statements.{told}
 use Rattle.mql_expressions.specs.Rules as Rules
 use Rattle.mql_expressions.specs.Made as Made
 use Rattle.mql_statements.specs.Statements as Statements

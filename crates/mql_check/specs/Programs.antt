@@ -40,6 +40,7 @@ use Rattle.mql_syntax.specs.declared.declaration.Enumerator.{Enumerator}
 use Rattle.mql_syntax.specs.declared.declaration.Enumeration as syntax_enumeration
 use Rattle.mql_syntax.specs.declared.declaration.Member as class_member
 use Rattle.mql_syntax.specs.declared.declaration.Member.TheVariants as members
+use Rattle.mql_syntax.specs.declared.declaration.Parent.{Parent}
 use Rattle.mql_syntax.specs.declared.declaration.Class.{Class}
 use Rattle.mql_syntax.specs.declared.declaration.Item.{Item}
 use Rattle.mql_syntax.specs.declared.declaration.Item.TheVariants as item
@@ -51,7 +52,7 @@ use Rattle.mql_names.specs.Faults.{told, break_if}
 use Rattle.mql_names.specs.Events.{event_name, event_of}
 use Rattle.mql_names.specs.Meanings.{names_of}
 use Rattle.mql_names.specs.Things.{body_parts}
-use Rattle.mql_names.specs.Types.{Names, param_keys, is_defined}
+use Rattle.mql_names.specs.Types.{Names, type_name, param_keys, is_defined}
 use Rattle.mql_types.specs.declared.types.Base.{Base}
 use Rattle.mql_types.specs.declared.types.Base.TheVariants as base
 use Rattle.mql_types.specs.declared.types.DataType.{DataType}
@@ -66,7 +67,7 @@ use Rattle.mql_scope.specs.declared.context.Enumeration.{Enumeration}
 use Rattle.mql_typed.specs.declared.info.Info.{Info}
 use Rattle.mql_typed.specs.declared.info.Standing.{Standing}
 use Rattle.mql_typed.specs.declared.info.Standing.TheVariants as stand
-use Rattle.mql_scope.specs.Contexts.{Text, Program, Context, behind, written}
+use Rattle.mql_scope.specs.Contexts.{Text, Program, Context, behind, written, either}
 use Rattle.mql_typed.specs.Typed.{single, value_base, var_type}
 use Rattle.mql_calls.specs.Nodes.{passes}
 use Rattle.mql_scope.specs.Names.{stands_at}
@@ -74,7 +75,9 @@ use Rattle.mql_expressions.specs.Rules.{no_fit}
 use Rattle.mql_expressions.specs.Values.{found, broken_at, innermost}
 use Rattle.mql_statements.specs.Initialisers.{Begun, started, start_constant}
 use Rattle.mql_statements.specs.Closing.{closes}
-use Rattle.mql_statements.specs.Statements.{Told, Static, declared_standing, variable_type, evaluated, dimensions_used, told_all}
+use Rattle.mql_statements.specs.declared.told.Static.{Static}
+use Rattle.mql_statements.specs.declared.told.Told.{Told}
+use Rattle.mql_statements.specs.Statements.{declared_standing, variable_type, evaluated, dimensions_used, told_all}
 
 -- What typing takes from elsewhere: the constant that an expression is, if it is one, by what the names of the
 -- program mean and the members of its enumerations; a constant taken into a type; the line and the file of a node.
@@ -144,10 +147,47 @@ abbrev pub field : Program → class_member.Member → List Field
 field p (members.Variable a v) = field_with a v (variable_type p [] v)
 field p (members.Function a f) = []
 
-abbrev pub layout : Program → Item → List Layout
-layout p (item.Class c) =
-    if c.defined then record { name = c.name; fields = flat_map (field p) c.members } ∷ [] else []
-layout p _ = []
+abbrev pub own_fields : Program → Class → List Field
+own_fields p c = flat_map (field p) c.members
+
+-- the structures that a program defines, and the last one of a name
+abbrev pub classes_in : Item → List Class
+classes_in (item.Class c) = if c.defined then c ∷ [] else []
+classes_in _ = []
+
+abbrev pub class_named : Text → List Class → Option Class
+class_named x [] = None
+class_named x (c ∷ cs) = either (class_named x cs) (if bytes_eq c.name x then Some c else None)
+
+-- the fields of a supplied structure of a name
+abbrev pub fields_named : Text → Layout → List Field
+fields_named x l = if bytes_eq l.name x then l.fields else []
+
+-- a structure takes the fields of its parent publicly, unless another word is said
+abbrev pub is_taken_publicly : Option Access → Bool
+is_taken_publicly None = true
+is_taken_publicly (Some a) = is_public a
+
+abbrev pub inherited_field : Option Access → Field → Field
+inherited_field a f = record f { accessible = f.accessible && is_taken_publicly a }
+
+-- the fields that a structure has of its parent: those of the parent's parent first, then the parent's own.
+-- Chains of parents are no longer than there are structures
+abbrev pub inherited : Program → List Class → ℕ → Option Parent → List Field
+inherited p cs zero q = []
+inherited p cs (suc n) None = []
+inherited p cs (suc n) (Some q) =
+    map (inherited_field q.access) (elim (class_named (type_name q.of) cs) [
+      | None ↦ flat_map (fields_named (type_name q.of)) supplied_layouts
+      | Some c ↦ inherited p cs n c.parent ++ own_fields p c
+    ])
+
+abbrev pub layout_of : Program → List Class → Class → Layout
+layout_of p cs c =
+    record { name = c.name; fields = inherited p cs (length cs) c.parent ++ own_fields p c }
+
+abbrev pub layouts : Program → List Class → List Layout
+layouts p cs = map (layout_of p cs) cs
 
 -- enumerations: a member without a value has one more than the one before it, the first has 0
 abbrev pub numbered : Program → Option syntax.Value → ℤ → ℤ
@@ -310,7 +350,7 @@ all_functions names items = defined_functions items ++ bodiless_functions names 
 abbrev pub with_types : List Item → Program → Program
 with_types items p =
     record p {
-      structures = supplied_layouts ++ flat_map (layout p) items;
+      structures = supplied_layouts ++ layouts p (flat_map classes_in items);
       enumerations = flat_map (enumeration p) items;
     }
 

@@ -1,5 +1,6 @@
--- Constants (MQL5 Reference, Language Basics: Data Types; Operations and Expressions): literals, names of constants, and what operators,
--- conversions and parentheses make of constants. Each part of a constant is one.
+-- Constants (MQL5 Reference, Language Basics: Data Types; Operations and Expressions): literals, names of
+-- constants, and what operators, conversions and parentheses make of constants. Each part of a constant is
+-- one.
 use Rattle.std.specs.Prelude.{ℕ, pos, Bool, not, ◌&&◌, ◌||◌, List, [], ◌∷◌, Option, Some, None}
 use Rattle.fx8.specs.declared.int_operator.IntOperator.TheVariants as op
 use Rattle.natives.specs.declared.types.ConstantValue.{ConstantValue}
@@ -91,10 +92,13 @@ operated numbers simple _ ts vs = None
 
 -- the constant that a value is, if it is one
 abbrev mutual
-  pub constant_of : (List ℕ → Option ConstantValue) → (TypeUse → Option SimpleType) → Value → Option ConstantValue
+  pub constant_of :
+      (List ℕ → Option ConstantValue) → (TypeUse → Option SimpleType) → Value → Option ConstantValue
   constant_of numbers simple (Node' place what ts m row) =
       operated numbers simple what ts (constants_row numbers simple row)
 
-  pub constants_row : (List ℕ → Option ConstantValue) → (TypeUse → Option SimpleType) → {m : _} → Row_of-Value m → Parts
+  pub constants_row :
+      (List ℕ → Option ConstantValue) → (TypeUse → Option SimpleType) → {m : _} → Row_of-Value m → Parts
   constants_row numbers simple end_of-Value = []
-  constants_row numbers simple (more_of-Value v vs) = constant_of numbers simple v ∷ constants_row numbers simple vs
+  constants_row numbers simple (more_of-Value v vs) =
+      constant_of numbers simple v ∷ constants_row numbers simple vs

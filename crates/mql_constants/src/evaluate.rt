@@ -127,7 +127,8 @@ fn operated<S: ConstantScope>(
     types: &[TypeUse],
     parts: &[Option<ConstantValue>],
 ) -> Option<ConstantValue>
-    ensures { result ≡ constants.operated (S.numbers scope.now) (S.types scope.now) what.now types.now parts.now }
+    ensures { result ≡
+        constants.operated (S.numbers scope.now) (S.types scope.now) what.now types.now parts.now }
 {
     match what {
         Operation::Name(name) => scope.number(name.as_slice()),
@@ -157,7 +158,8 @@ pub fn constant_of<S: ConstantScope>(
     scope: &S,
     v: &Value,
 ) -> Result<Option<ConstantValue>, OutOfMemory>
-    ensures { IfOk result (λ found. found ≡ constants.constant_of (S.numbers scope.now) (S.types scope.now) v.now) }
+    ensures { IfOk result (λ found. found ≡
+        constants.constant_of (S.numbers scope.now) (S.types scope.now) v.now) }
 {
     match v {
         Value::Node {

@@ -23,13 +23,15 @@ use Rattle.mql_sizes.specs.Sizes.{sizes, breaks_in}
 use Rattle.mql_sizes.specs.Maps.{value_at, Holds}
 use Rattle.mql_sizes.proofs.Held.{same_values}
 use Rattle.mql_nesting.specs.Nesting.{breaks_nesting}
+use Rattle.mql_parents.specs.Parents.{breaks_parents}
 use Rattle.mql_bodies.specs.Bodies.{breaks_used}
 use Rattle.mql_decls.specs.declared.forms.StructureForm.{StructureForm}
 use Rattle.mql_decls.specs.declared.forms.FunctionForm.{FunctionForm}
 use Rattle.mql_decls.specs.declared.forms.GlobalForm.{GlobalForm}
 use Rattle.mql_decls.specs.declared.expanding.Decls.{Decls}
 use Rattle.mql_decls.specs.Rules.{all_breaks, first_broken}
-use Rattle.mql_decls.specs.Declarations.{functions_from, globals_from, item_structures}
+use Rattle.mql_decls.specs.declared.forms.StaticForm.{StaticForm}
+use Rattle.mql_decls.specs.Declarations.{numbered, item_functions, item_globals, item_statics, item_structures}
 use Rattle.mql_decls.specs.Expands.{Declares, values_of}
 
 abbrev MeaningMap : Type 0
@@ -56,23 +58,30 @@ of_three names s r a b d h k l t =
     ∙ ap (sooner (told_of names (things_of names s))) (ap (λ x. sooner x d) k ∙ ap (sooner (told (breaks_in names s))) l ∙ sym (told_append (breaks_in names s) (breaks_used s)))
     ∙ sym (told_append (flat_map (breaks names) (things_of names s)) (breaks_in names s ++ breaks_used s))
 
-pub of_all : (names : Names) (s : Syntax) (r q a b d e : Option Broken) → a ≡ told_of names (things_of names s) → b ≡ told (breaks_in names s)
-    → d ≡ told (breaks_used s) → e ≡ told (breaks_nesting s) → q ≡ sooner a (sooner b d) → r ≡ sooner q e → r ≡ told (all_breaks names s)
-of_all names s r q a b d e h k l m t u =
+pub of_all : (names : Names) (s : Syntax) (r q t a b d e f : Option Broken) → a ≡ told_of names (things_of names s) → b ≡ told (breaks_in names s)
+    → d ≡ told (breaks_used s) → e ≡ told (breaks_nesting s) → f ≡ told (breaks_parents names s) → q ≡ sooner a (sooner b d) → t ≡ sooner e f → r ≡ sooner q t → r ≡ told (all_breaks names s)
+of_all names s r q t a b d e f h k l m o u v w =
     let three : List Broken = flat_map (breaks names) (things_of names s) ++ (breaks_in names s ++ breaks_used s) in
-    u ∙ ap (λ x. sooner x e) (of_three names s q a b d h k l t)
-    ∙ ap (sooner (told three)) m ∙ sym (told_append three (breaks_nesting s))
+    w ∙ ap (λ x. sooner x t) (of_three names s q a b d h k l u)
+    ∙ ap (sooner (told three)) (v ∙ ap (λ x. sooner x f) m ∙ ap (sooner (told (breaks_nesting s))) o ∙ sym (told_append (breaks_nesting s) (breaks_parents names s)))
+    ∙ sym (told_append three (breaks_nesting s ++ breaks_parents names s))
 
 pub by_names : {E : Type 0} (m : MeaningMap) (s : Syntax) (r : Result (Option Broken) E) → Means m (flat_map item_meanings s.items)
     → IfOk r (λ b. b ≡ told (all_breaks (meaning m) s)) → IfOk r (λ b. b ≡ first_broken s)
 unfolding first_broken
 by_names m s r h k = subst (λ (names : Names). IfOk r (λ b. b ≡ told (all_breaks names s))) (λ i q. h.is q i) k
 
-pub made : (s : Syntax) (items : List Item) (m : MeaningMap) (v : ValueMap) (es : List EnumMembers) (ss : List StructureForm) (fs : List FunctionForm) (gs : List GlobalForm)
+same_numbered : {A : Type 0} (declares : Names → Values → ℕ → Item → List A) (s : Syntax) (items : List Item) (n m : Names) (v w : Values) (xs : List A)
+    → n ≡ m → v ≡ w → items ≡ s.items → xs ≡ numbered (declares n v) 0 items → xs ≡ numbered (declares m w) 0 s.items
+same_numbered declares s items n m v w xs e f g h =
+    h ∙ ap (λ (o : Names). numbered (declares o v) 0 items) e ∙ ap (λ (o : Values). numbered (declares m o) 0 items) f ∙ ap (numbered (declares m w) 0) g
+
+pub made : (s : Syntax) (items : List Item) (m : MeaningMap) (v : ValueMap) (es : List EnumMembers) (ss : List StructureForm) (fs : List FunctionForm) (gs : List GlobalForm) (ts : List StaticForm)
     → items ≡ s.items → Means m (flat_map item_meanings items) → es ≡ enumerations_of (meaning m) [] items → Holds v (all_members es)
-    → ss ≡ flat_map (item_structures (meaning m) (value_at v)) items → fs ≡ functions_from (meaning m) (value_at v) 0 items → gs ≡ globals_from (meaning m) (value_at v) 0 items
-    → Declares (record { names = m; values = v; enumerations = es; structures = ss; functions = fs; globals = gs }) s
-made s items m v es ss fs gs e h k held p q r =
+    → ss ≡ flat_map (item_structures (meaning m) (value_at v)) items → fs ≡ numbered (item_functions (meaning m) (value_at v)) 0 items
+    → gs ≡ numbered (item_globals (meaning m) (value_at v)) 0 items → ts ≡ numbered (item_statics (meaning m) (value_at v)) 0 items
+    → Declares (record { names = m; values = v; enumerations = es; structures = ss; functions = fs; globals = gs; statics = ts }) s
+made s items m v es ss fs gs ts e h k held p q r t =
     let nm : meaning m ≡ names_of s.items = (λ i x. h.is x i) ∙ ap names_of e in
     let esp : es ≡ enumerations_of (names_of s.items) [] s.items = k ∙ ap (λ (n : Names). enumerations_of n [] items) nm ∙ ap (enumerations_of (names_of s.items) []) e in
     let vp : value_at v ≡ values_of s = same_values v (all_members es) held ∙ ap (λ xs. value_among (all_members xs)) esp in
@@ -81,6 +90,7 @@ made s items m v es ss fs gs e h k held p q r =
       values = λ x. ap (λ (f : Values). f x) vp;
       enumerations = esp;
       structures = p ∙ ap (λ (n : Names). flat_map (item_structures n (value_at v)) items) nm ∙ ap (λ (f : Values). flat_map (item_structures (names_of s.items) f) items) vp ∙ ap (flat_map (item_structures (names_of s.items) (values_of s))) e;
-      functions = q ∙ ap (λ (n : Names). functions_from n (value_at v) 0 items) nm ∙ ap (λ (f : Values). functions_from (names_of s.items) f 0 items) vp ∙ ap (functions_from (names_of s.items) (values_of s) 0) e;
-      globals = r ∙ ap (λ (n : Names). globals_from n (value_at v) 0 items) nm ∙ ap (λ (f : Values). globals_from (names_of s.items) f 0 items) vp ∙ ap (globals_from (names_of s.items) (values_of s) 0) e;
+      functions = same_numbered item_functions s items (meaning m) (names_of s.items) (value_at v) (values_of s) fs nm vp e q;
+      globals = same_numbered item_globals s items (meaning m) (names_of s.items) (value_at v) (values_of s) gs nm vp e r;
+      statics = same_numbered item_statics s items (meaning m) (names_of s.items) (value_at v) (values_of s) ts nm vp e t;
     }

@@ -1,1 +1,4 @@
 pub mod Joined
+pub mod Numbered
+pub mod Params
+pub mod StaticThings

@@ -1,3 +1,4 @@
 pub mod Declarations
+pub mod Makes
 pub mod Rules
 pub mod Expands

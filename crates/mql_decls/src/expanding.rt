@@ -6,9 +6,9 @@ ghost use Rattle.mql_names.specs.Meanings.{names_of};
 ghost use Rattle.mql_decls.specs.Expands.{Answered, Expands, Declares};
 
 use crate::fault::{DeclFault, Refusal};
-use crate::forms::{FunctionForm, GlobalForm, StructureForm};
+use crate::forms::{FunctionForm, GlobalForm, StaticForm, StructureForm};
 use crate::judge::refused;
-use crate::made::{functions_of, globals_of, structures_of};
+use crate::maker::Maker;
 use fx8::{ItemList, OutOfMemory};
 use mql_names::{Meanings, meanings_of};
 use mql_sizes::{EnumMembers, Values, enumerations_of};
@@ -26,6 +26,8 @@ pub struct Decls<'a> {
     pub structures: ItemList<StructureForm>,
     pub functions: ItemList<FunctionForm>,
     pub globals: ItemList<GlobalForm>,
+    /// The static variables of functions, those of one function behind those of another.
+    pub statics: ItemList<StaticForm>,
 }
 
 fn declared(alloc: Global, syntax: &Syntax) -> Result<Decls<'_>, OutOfMemory>
@@ -34,9 +36,15 @@ fn declared(alloc: Global, syntax: &Syntax) -> Result<Decls<'_>, OutOfMemory>
     let items = syntax.items.as_slice();
     let names = meanings_of(alloc, items)?;
     let (enumerations, values) = enumerations_of(alloc, &names, items)?;
-    let structures = structures_of(alloc, &names, &values, items)?;
-    let functions = functions_of(alloc, &names, &values, items)?;
-    let globals = globals_of(alloc, &names, &values, items)?;
+    let maker = Maker {
+        alloc,
+        names: &names,
+        values: &values,
+    };
+    let structures = maker.structures(items)?;
+    let functions = maker.functions(items)?;
+    let globals = maker.globals(items)?;
+    let statics = maker.statics(items)?;
     Ok(Decls {
         names,
         values,
@@ -44,6 +52,7 @@ fn declared(alloc: Global, syntax: &Syntax) -> Result<Decls<'_>, OutOfMemory>
         structures,
         functions,
         globals,
+        statics,
     })
 }
 

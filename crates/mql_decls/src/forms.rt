@@ -3,6 +3,7 @@
 use fx8::{ItemList, Text};
 use mql_names::{Event, Sort};
 use mql_syntax::{Place, Words};
+use natives::ConstantValue;
 
 /// A type, by what it is and by its name; the other names of `int` are `int`.
 #[derive(Drop)]
@@ -11,7 +12,19 @@ pub struct TypeForm {
     pub name: Text,
 }
 
-/// A variable of no block, a field of a structure, or a parameter.
+/// What a variable begins with, or what a parameter has by default.
+#[derive(Clone, Copy, Debug)]
+pub enum StartForm {
+    /// Nothing is said.
+    Zero,
+    /// A value, at the node that it is or stands in, and the number that it is; none where it is no constant
+    /// number.
+    Value(Place, Option<ConstantValue>),
+    /// So many arguments of a constructor.
+    Arguments(usize),
+}
+
+/// A variable, a field of a structure, or a parameter.
 #[derive(Drop)]
 pub struct VariableForm {
     pub place: Place,
@@ -20,13 +33,13 @@ pub struct VariableForm {
     pub name: Text,
     /// The sizes of its dimensions; none where one is open.
     pub dimensions: ItemList<Option<u32>>,
+    pub start: StartForm,
 }
 
-/// A parameter of a function.
+/// A parameter of a function; its default is what it starts with.
 #[derive(Drop)]
 pub struct ParamForm {
     pub reference: bool,
-    pub has_default: bool,
     pub variable: VariableForm,
 }
 
@@ -36,6 +49,8 @@ pub struct FunctionForm {
     pub place: Place,
     /// The place of the item among the items of the program, from 0 on.
     pub item: usize,
+    /// How it is spelled with the types of its parameters, and whether it is only announced.
+    pub key: Text,
     pub result: Option<TypeForm>,
     pub name: Text,
     pub params: ItemList<ParamForm>,
@@ -52,10 +67,21 @@ pub struct GlobalForm {
     pub variable: VariableForm,
 }
 
-/// A structure with its fields in order.
+/// A static variable of a function.
+#[derive(Drop)]
+pub struct StaticForm {
+    /// The place of the function's item among the items of the program, from 0 on.
+    pub item: usize,
+    /// The function's key.
+    pub function: Text,
+    pub variable: VariableForm,
+}
+
+/// A structure with its fields in order, without those of its parent.
 #[derive(Drop)]
 pub struct StructureForm {
     pub place: Place,
     pub name: Text,
+    pub parent: Option<TypeForm>,
     pub fields: ItemList<VariableForm>,
 }

@@ -10,6 +10,7 @@ use fx8::OutOfMemory;
 use mql_bodies::bodies_told;
 use mql_names::{Broken, Meanings, meanings_of, sooner, told_with};
 use mql_nesting::nesting_told;
+use mql_parents::parents_told;
 use mql_plain::first_off;
 use mql_sizes::{EnumMembers, Values, enumerations_of, enumerations_told, sizes_told};
 use mql_syntax::Syntax;
@@ -41,7 +42,11 @@ fn all_told(
     let constants = constants_told(alloc, names, syntax)?;
     let bodies = bodies_told(alloc, syntax)?;
     let nesting = nesting_told(alloc, syntax)?;
-    Ok(sooner(sooner(of, sooner(constants, bodies)), nesting))
+    let parents = parents_told(alloc, names, syntax)?;
+    Ok(sooner(
+        sooner(of, sooner(constants, bodies)),
+        sooner(nesting, parents),
+    ))
 }
 
 /// The broken rule of a program's declarations that is told.

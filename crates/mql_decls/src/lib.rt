@@ -4,10 +4,18 @@
 mod expanding;
 mod fault;
 mod forms;
+mod functions;
+mod items;
 mod judge;
-mod made;
+mod maker;
+mod statics;
+mod structures;
+mod variables;
 
 pub use expanding::{Decls, expand};
 pub use fault::{DeclFault, Refusal};
-pub use forms::{FunctionForm, GlobalForm, ParamForm, StructureForm, TypeForm, VariableForm};
+pub use forms::{
+    FunctionForm, GlobalForm, ParamForm, StartForm, StaticForm, StructureForm, TypeForm,
+    VariableForm,
+};
 pub use judge::refused;

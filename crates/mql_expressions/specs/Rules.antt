@@ -27,7 +27,7 @@ use Rattle.mql_types.specs.Overloads.{choose}
 use Rattle.mql_scope.specs.declared.context.Field.{Field}
 use Rattle.mql_scope.specs.declared.context.Layout.{Layout}
 use Rattle.mql_typed.specs.declared.info.Info.{Info}
-use Rattle.mql_scope.specs.Contexts.{Text, Program, Context, written}
+use Rattle.mql_scope.specs.Contexts.{Text, Program, Context, either, written}
 use Rattle.mql_scope.specs.declared.names.Callee.{Callee}
 use Rattle.mql_scope.specs.declared.names.Callee.TheVariants.{Functions, Conversion, Supplied, Other, Unknown}
 use Rattle.mql_scope.specs.Names.{name_info, callee}
@@ -139,10 +139,11 @@ abbrev pub cast_base : Context → List TypeUse → Option Base
 cast_base c [] = None
 cast_base c (t ∷ ts) = written c.program t
 
--- the field of a name that values of a type have
+-- the field of a name that values of a type have, the last one: what a structure declares itself stands behind
+-- what it has of its parent, and hides it
 abbrev pub field_in : List Field → Text → ℕ → Option (ℕ × Field)
 field_in [] x n = None
-field_in (f ∷ fs) x n = if bytes_eq f.name x then Some (n, f) else field_in fs x (n + 1)
+field_in (f ∷ fs) x n = either (field_in fs x (n + 1)) (if bytes_eq f.name x then Some (n, f) else None)
 
 abbrev pub fields_at : Option Layout → List Field
 fields_at None = []

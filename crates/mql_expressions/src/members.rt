@@ -17,20 +17,21 @@ use mql_typed::{Info, value_base};
 use mql_types::Base;
 use std::alloc::Global;
 
-/// The field of a name, with its number from 0 on.
+/// The field of a name, the last one, with its number from 0 on.
 fn field_in<'a>(fields: &'a [Field], name: &[u16]) -> Option<(usize, &'a Field)>
     ensures { option_map (λ f. (f.0, f.1.now)) result ≡ field_in fields.now name.now 0 }
 {
+    let mut hit = None;
     let mut n = 0;
     let mut rest = fields;
     while let [f, others @ ..] = rest {
         if f.name.as_slice() == name {
-            return Some((n, f));
+            hit = Some((n, f));
         }
         rest = others;
         n += 1;
     }
-    None
+    hit
 }
 
 fn fields_at(layout: Option<&Layout>) -> &[Field]

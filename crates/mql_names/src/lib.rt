@@ -14,7 +14,9 @@ pub use event::{EVENTS, Event, event_of};
 pub use fault::{Broken, break_if, sooner};
 pub use items::body_parts;
 pub use program::{first_broken, meanings_of, told_with};
-pub use rules::{has_default, type_place};
+pub use rules::{has_default, is_unknown, type_place};
 pub use scope::Named;
-pub use types::{Meaning, Meanings, Sort, is_defined, meaning_of, type_key, type_sort};
+pub use types::{
+    Meaning, Meanings, Sort, form_of, is_defined, meaning_of, type_key, type_name, type_sort,
+};
 pub use walk::{own_locals, shares};

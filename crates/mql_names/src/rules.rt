@@ -13,7 +13,8 @@ use crate::fault::{Broken, break_if, sooner};
 use crate::types::{Meanings, Sort, type_sort};
 use mql_syntax::{Dimension, Function, Item, Param, Place, Start, Syntax, TypeUse, Variable};
 
-fn is_unknown(sort: Sort) -> bool
+/// Whether a type is none.
+pub fn is_unknown(sort: Sort) -> bool
     ensures { result ≡ is_unknown sort }
 {
     match sort {

@@ -125,7 +125,8 @@ pub fn type_sort(names: &Meanings<'_>, of: &TypeUse) -> Sort
     }
 }
 
-fn type_name(of: &TypeUse) -> &[u16]
+/// The name of a type that is written.
+pub fn type_name(of: &TypeUse) -> &[u16]
     ensures { result.now ≡ type_name of.now }
 {
     match of {
@@ -201,11 +202,7 @@ fn with_bracket(mut text: Text, _dimension: &Dimension) -> Result<Text, OutOfMem
 
 /// How a function is spelled with the types of its parameters, and whether it is only announced.
 #[tactic(auto, unfolding(crate::specs::Types::form_of))]
-pub(crate) fn form_of(
-    alloc: Global,
-    names: &Meanings<'_>,
-    f: &Function,
-) -> Result<Text, OutOfMemory>
+pub fn form_of(alloc: Global, names: &Meanings<'_>, f: &Function) -> Result<Text, OutOfMemory>
     ensures { IfOk result (λ text. text ≡ form_of (meaning names.now) f.now) }
 {
     let mut text = Text::from_slice(alloc, f.name.as_slice())?;

@@ -3,7 +3,7 @@ use Rattle.std.proofs.Common.{◌≡◌, ◌≤◌, ◌+◌, ℕ, zero, suc, Boo
 use Rattle.std.specs.List.{flat_map}
 use Rattle.mql_names.specs.Scopes.{Name, is_among}
 use Rattle.mql_nesting.specs.declared.structure.Structure.{Structure}
-use Rattle.mql_nesting.specs.Nesting.{fields_of, joined, grown, within}
+use Rattle.mql_nesting.specs.Nesting.{parts_of, joined, grown, within}
 
 longer : (xs ys : List Name) → length xs ≤ length (joined xs ys)
 longer xs [] = omega arith
@@ -30,5 +30,5 @@ same_within ss (suc n) xs h = ap (within ss n) h ∙ same_within ss n xs h
 -- a turn that is as long as what it began with is all that so many turns find
 pub last_turn : (ss : List Structure) (n : ℕ) (xs ys : List Name) → ys ≡ grown ss xs → length ys ≡ length xs → ys ≡ within ss n xs
 last_turn ss n xs ys g e =
-    let same : grown ss xs ≡ xs = nothing_joined xs (flat_map (fields_of ss) xs) (ap length (sym g) ∙ e) in
+    let same : grown ss xs ≡ xs = nothing_joined xs (flat_map (parts_of ss) xs) (ap length (sym g) ∙ e) in
     g ∙ same ∙ sym (same_within ss n xs same)

@@ -38,47 +38,47 @@ fn with_copies(
     Ok(found)
 }
 
-fn with_fields_named(
+fn with_parts_named(
     alloc: Global,
     found: ItemList<Text>,
     name: &[u16],
     s: &Structure,
 ) -> Result<ItemList<Text>, OutOfMemory>
-    ensures { IfOk result (λ new. new ≡ found ++ spec.fields_named name.now s.now) }
+    ensures { IfOk result (λ new. new ≡ found ++ spec.parts_named name.now s.now) }
 {
     if s.name.as_slice() == name {
-        with_copies(alloc, found, s.fields.as_slice())
+        with_copies(alloc, found, s.parts.as_slice())
     } else {
         Ok(found)
     }
 }
 
-/// Names with the types of the fields of the structures of a name.
-fn with_fields_of(
+/// Names with the types of the parts of the structures of a name.
+fn with_parts_of(
     alloc: Global,
     mut found: ItemList<Text>,
     structures: &[Structure],
     name: &[u16],
 ) -> Result<ItemList<Text>, OutOfMemory>
-    ensures { IfOk result (λ new. new ≡ found ++ spec.fields_of structures.now name.now) }
+    ensures { IfOk result (λ new. new ≡ found ++ spec.parts_of structures.now name.now) }
 {
     for s in structures {
-        found = with_fields_named(alloc, found, name, s)?;
+        found = with_parts_named(alloc, found, name, s)?;
     }
     Ok(found)
 }
 
-/// The types of the fields of the structures of these names.
-fn all_fields(
+/// The types of the parts of the structures of these names.
+fn all_parts(
     alloc: Global,
     structures: &[Structure],
     names: &[Text],
 ) -> Result<ItemList<Text>, OutOfMemory>
-    ensures { IfOk result (λ new. new ≡ flat_map (spec.fields_of structures.now) names.now) }
+    ensures { IfOk result (λ new. new ≡ flat_map (spec.parts_of structures.now) names.now) }
 {
     let mut found = ItemList::new(alloc);
     for name in names {
-        found = with_fields_of(alloc, found, structures, name.as_slice())?;
+        found = with_parts_of(alloc, found, structures, name.as_slice())?;
     }
     Ok(found)
 }
@@ -113,7 +113,7 @@ fn joined(
     Ok(names)
 }
 
-/// Types, and the types of the fields of each of them.
+/// Types, and the types of the parts of each of them.
 fn grown(
     alloc: Global,
     structures: &[Structure],
@@ -121,8 +121,8 @@ fn grown(
 ) -> Result<ItemList<Text>, OutOfMemory>
     ensures { IfOk result (λ new. new ≡ spec.grown structures.now names) }
 {
-    let fields = all_fields(alloc, structures, names.as_slice())?;
-    joined(alloc, names, fields.as_slice())
+    let parts = all_parts(alloc, structures, names.as_slice())?;
+    joined(alloc, names, parts.as_slice())
 }
 
 /// So many turns of that; a turn that adds nothing is the last.
@@ -155,8 +155,8 @@ fn contained(
 ) -> Result<ItemList<Text>, OutOfMemory>
     ensures { IfOk result (λ new. new ≡ spec.contained structures.now name.now) }
 {
-    let fields = with_fields_of(alloc, ItemList::new(alloc), structures, name)?;
-    let first = joined(alloc, ItemList::new(alloc), fields.as_slice())?;
+    let parts = with_parts_of(alloc, ItemList::new(alloc), structures, name)?;
+    let first = joined(alloc, ItemList::new(alloc), parts.as_slice())?;
     within(alloc, structures, structures.len(), first)
 }
 
@@ -183,7 +183,8 @@ fn all_nesting(alloc: Global, structures: &[Structure]) -> Result<Option<Broken>
     Ok(told)
 }
 
-/// What is told of a program's structures: the structure that contains itself (rule 10), of several the first.
+/// What is told of a program's structures: the structure that contains itself (rule 10), of several the
+/// first.
 #[tactic(auto, unfolding(crate::specs::Nesting::breaks_nesting))]
 pub fn nesting_told(alloc: Global, syntax: &Syntax) -> Result<Option<Broken>, OutOfMemory>
     ensures { IfOk result (λ b. b ≡ told (spec.breaks_nesting syntax.now)) }

@@ -1,53 +1,68 @@
-//! Structures, and the types of their fields.
+//! Structures, and the types of their parts.
 ghost use Rattle.std.specs.Prelude.{◌≡◌, ◌++◌, IfOk};
 ghost use Rattle.std.specs.List.{flat_map};
-ghost use Rattle.mql_names.specs.Types.{type_name};
 ghost use Rattle.mql_nesting.specs.Nesting as spec;
 
 use fx8::{ItemList, OutOfMemory, Text};
-use mql_syntax::{Class, Item, Member, Place, TypeUse};
+use mql_names::type_name;
+use mql_syntax::{Class, Item, Member, Parent, Place};
 use std::alloc::Global;
 
-/// A structure that is defined, with the names of the types of its fields.
+/// A structure that is defined, with the names of the types of its parts: its parent and its fields.
 #[derive(Drop)]
 pub(crate) struct Structure {
     pub place: Place,
     pub name: Text,
-    pub fields: ItemList<Text>,
+    pub parts: ItemList<Text>,
 }
 
-fn type_name(of: &TypeUse) -> &[u16]
-    ensures { result.now ≡ type_name of.now }
+fn parent_types(alloc: Global, parent: &Option<Parent>) -> Result<ItemList<Text>, OutOfMemory>
+    ensures { IfOk result (λ found. found ≡ spec.parent_types parent.now) }
 {
-    match of {
-        TypeUse::Named { name, .. } => name.as_slice(),
+    let mut found = ItemList::new(alloc);
+    match parent {
+        None => Ok(found),
+        Some(one) => {
+            found.push(Text::from_slice(alloc, type_name(&one.of))?)?;
+            Ok(found)
+        }
     }
 }
 
 fn with_field(
     alloc: Global,
-    mut fields: ItemList<Text>,
+    mut found: ItemList<Text>,
     m: &Member,
 ) -> Result<ItemList<Text>, OutOfMemory>
-    ensures { IfOk result (λ new. new ≡ fields ++ spec.field_types m.now) }
+    ensures { IfOk result (λ new. new ≡ found ++ spec.field_types m.now) }
 {
     match m {
         Member::Variable(_, v) => {
-            fields.push(Text::from_slice(alloc, type_name(&v.of))?)?;
-            Ok(fields)
+            found.push(Text::from_slice(alloc, type_name(&v.of))?)?;
+            Ok(found)
         }
-        Member::Function(..) => Ok(fields),
+        Member::Function(..) => Ok(found),
     }
 }
 
-fn field_types(alloc: Global, members: &[Member]) -> Result<ItemList<Text>, OutOfMemory>
-    ensures { IfOk result (λ fields. fields ≡ flat_map spec.field_types members.now) }
+fn with_fields(
+    alloc: Global,
+    mut found: ItemList<Text>,
+    members: &[Member],
+) -> Result<ItemList<Text>, OutOfMemory>
+    ensures { IfOk result (λ new. new ≡ found ++ flat_map spec.field_types members.now) }
 {
-    let mut found = ItemList::new(alloc);
     for m in members {
         found = with_field(alloc, found, m)?;
     }
     Ok(found)
+}
+
+fn part_types(alloc: Global, c: &Class) -> Result<ItemList<Text>, OutOfMemory>
+    ensures { IfOk result (λ found. found ≡ spec.part_types c.now) }
+{
+    let parent = parent_types(alloc, &c.parent)?;
+    with_fields(alloc, parent, c.members.as_slice())
 }
 
 #[tactic(auto, unfolding(crate::specs::Nesting::structure_of))]
@@ -55,11 +70,11 @@ fn structure_of(alloc: Global, c: &Class) -> Result<Structure, OutOfMemory>
     ensures { IfOk result (λ s. s ≡ spec.structure_of c.now) }
 {
     let name = Text::from_slice(alloc, c.name.as_slice())?;
-    let fields = field_types(alloc, c.members.as_slice())?;
+    let parts = part_types(alloc, c)?;
     Ok(Structure {
         place: c.place,
         name,
-        fields,
+        parts,
     })
 }
 

@@ -1,5 +1,6 @@
--- Plain programs: without `class`, `interface`, methods, static members, templates, pointers, `this`, `new`, `delete`, `dynamic_cast` and `::` (own).
-use Rattle.std.specs.Prelude.{Bool, true, false, not, ◌||◌, ◌==◌, List, [], ◌∷◌, length, Option, is_some}
+-- Plain programs: without `class`, `interface`, methods, static members, templates, pointers, `this`, `new`,
+-- `delete`, `dynamic_cast` and `::` (own).
+use Rattle.std.specs.Prelude.{Bool, true, false, not, ◌||◌, ◌==◌, List, [], ◌∷◌, length, Option, Some, None, is_some}
 use Rattle.mql_syntax.specs.declared.kind.Place.{Place}
 use Rattle.mql_syntax.specs.declared.kind.ClassKind.{ClassKind}
 use Rattle.mql_syntax.specs.declared.kind.ClassKind.TheVariants as classes
@@ -15,6 +16,7 @@ use Rattle.mql_syntax.specs.declared.declaration.Body.TheVariants as body
 use Rattle.mql_syntax.specs.declared.declaration.Function.{Function}
 use Rattle.mql_syntax.specs.declared.declaration.Member.{Member}
 use Rattle.mql_syntax.specs.declared.declaration.Member.TheVariants as member
+use Rattle.mql_syntax.specs.declared.declaration.Parent.{Parent}
 use Rattle.mql_syntax.specs.declared.declaration.Class.{Class}
 use Rattle.mql_syntax.specs.declared.declaration.Syntax.{Syntax}
 use Rattle.mql_names.specs.declared.fault.Broken.{Broken}
@@ -76,9 +78,15 @@ is_of_classes f =
     is_some f.scope || (f.destructor || (not (length f.types == 0) || (not (length f.bases == 0)
     || (f.overrides || (f.words.is_virtual || is_pure f.body)))))
 
--- a class, an interface, a template, or a structure with a parent
+-- a parent is an instance of a template
+abbrev pub is_derived_parent : Option Parent → Bool
+is_derived_parent None = false
+is_derived_parent (Some p) = is_derived p.of
+
+-- a class, an interface, a template, or a structure whose parent is an instance of one
 unfoldable pub is_no_plain_structure : Class → Bool
-is_no_plain_structure c = not (is_struct c.kind) || (not (length c.types == 0) || is_some c.parent)
+is_no_plain_structure c =
+    not (is_struct c.kind) || (not (length c.types == 0) || is_derived_parent c.parent)
 
 -- methods and static members
 abbrev pub member_off : Member → List Broken

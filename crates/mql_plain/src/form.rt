@@ -7,8 +7,8 @@ ghost use Rattle.mql_plain.specs.Plain as plain;
 use fx8::{OutOfMemory, Text};
 use mql_names::{Broken, break_if, type_place};
 use mql_syntax::{
-    Body, Class, ClassKind, Function, Member, Operation, Place, StatementKind, Syntax, TypeUse,
-    UnaryOperator, Variable,
+    Body, Class, ClassKind, Function, Member, Operation, Parent, Place, StatementKind, Syntax,
+    TypeUse, UnaryOperator, Variable,
 };
 use mql_walk::{Judge, judged};
 use std::alloc::Global;
@@ -102,11 +102,20 @@ fn is_of_classes(f: &Function) -> bool
         || is_pure(&f.body)
 }
 
+fn is_derived_parent(parent: &Option<Parent>) -> bool
+    ensures { result ≡ plain.is_derived_parent parent.now }
+{
+    match parent {
+        None => false,
+        Some(one) => is_derived(&one.of),
+    }
+}
+
 #[tactic(auto, unfolding(crate::specs::Plain::is_no_plain_structure))]
 fn is_no_plain_structure(c: &Class) -> bool
     ensures { result ≡ plain.is_no_plain_structure c.now }
 {
-    !is_struct(c.kind) || c.types.len() != 0 || c.parent.is_some()
+    !is_struct(c.kind) || c.types.len() != 0 || is_derived_parent(&c.parent)
 }
 
 fn member_off(m: &Member) -> Option<Broken>

@@ -1,5 +1,5 @@
--- Members of enumerations and their values (MQL5 Reference, Data Types, Enumerations): each is a constant of `int`; one without a value is
--- one more than the one before, the first is 0.
+-- Members of enumerations and their values (MQL5 Reference, Data Types, Enumerations): each is a constant of
+-- `int`; one without a value is one more than the one before, the first is 0.
 use Rattle.std.specs.Prelude.{ℕ, ℤ, pos, negsuc, ◌+ℤ◌, int_lt, int_le, Bool, true, false, ◌&&◌, ◌||◌, List, [], ◌∷◌, ◌++◌, flat_map, bytes_eq, Option, Some, None, is_none, if◌then◌else◌}
 use Rattle.fx8.specs.declared.int_kind.IntKind.TheVariants as kind
 use Rattle.natives.specs.declared.types.ConstantValue.{ConstantValue}

@@ -38,7 +38,8 @@ abbrev pub after : Names → Values → List Name → ℕ → Dimension → Opti
 after names values locals n Open = Some n
 after names values locals n (Size v) = times n (size_of (constant_in names values locals v))
 
--- each size is a constant from 1, and the elements, so many for each place of the dimensions, are not too many
+-- each size is a constant from 1, and the elements, so many for each place of the dimensions, are not too
+-- many
 abbrev pub sizes_hold : Names → Values → List Name → ℕ → List Dimension → Bool
 sizes_hold names values locals n [] = true
 sizes_hold names values locals n (d ∷ ds) =

@@ -1,7 +1,6 @@
 //! Constants of a program.
 ghost use Rattle.std.specs.Prelude.{◌≡◌, ℕ, List, IfOk, OnOk};
 ghost use Rattle.mql_names.specs.Maps.{meaning};
-ghost use Rattle.mql_names.specs.Scopes.{is_among};
 ghost use Rattle.mql_sizes.specs.Maps.{value_at};
 ghost use Rattle.mql_sizes.specs.Members as spec;
 
@@ -10,6 +9,7 @@ use fx8::{IntKind, OutOfMemory, Text};
 use mql_constants::{ConstantScope, constant_of};
 use mql_names::{Meanings, Sort, meaning_of, type_sort};
 use mql_syntax::{TypeUse, Value};
+use mql_walk::is_local;
 use natives::{ConstantValue, SimpleType, constant_named};
 use std::alloc::Global;
 use std::collections::BTreeMap;
@@ -44,20 +44,6 @@ fn native_number(name: &[u16]) -> Option<ConstantValue>
         Some(constant) => Some(constant.value()),
         None => None,
     }
-}
-
-/// Whether a name is among the names of locals.
-fn is_local(locals: &[Text], name: &[u16]) -> bool
-    ensures { result ≡ is_among name.now locals.now }
-{
-    let mut rest = locals;
-    while let [local, others @ ..] = rest {
-        if local.as_slice() == name {
-            return true;
-        }
-        rest = others;
-    }
-    false
 }
 
 fn global_number(names: &Meanings<'_>, values: &Values<'_>, name: &[u16]) -> Option<ConstantValue>

@@ -168,7 +168,8 @@ fn with_enumeration<'a>(
 ) -> Result<(ItemList<EnumMembers>, Values<'a>), OutOfMemory>
     ensures { IfOk result (λ r. Holds values.entry (spec.all_members found) → ((is : List Item) →
         r.0 ++ spec.enumerations_of (meaning names.now) (spec.all_members r.0) is
-        ≡ found ++ spec.enumerations_of (meaning names.now) (spec.all_members found) (items.Enumeration e.now ∷ is))
+        ≡ found ++ spec.enumerations_of (meaning names.now) (spec.all_members found)
+        (items.Enumeration e.now ∷ is))
         × Holds r.1 (spec.all_members r.0)) }
 {
     let (one, values) = enumeration_of(alloc, names, values, e)?;

@@ -38,14 +38,31 @@ abbrev pub is_break : StatementKind → Bool
 is_break kind.Break = true
 is_break _ = false
 
+-- some statement, the last one, and both branches of an `if`
+abbrev pub some : List Bool → Bool
+some [] = false
+some (b ∷ bs) = b || some bs
+
+abbrev pub last_one : List Bool → Bool
+last_one [] = false
+last_one (b ∷ []) = b
+last_one (b ∷ c ∷ bs) = last_one (c ∷ bs)
+
+abbrev pub both : List Bool → Bool
+both [] = false
+both (b ∷ bs) = b && last_one bs
+
+-- a statement breaks what stands around it
+abbrev pub breaking : StatementKind → List Bool → Bool
+breaking what parts = is_break what || (passes_breaks what && some parts)
+
 abbrev mutual
   pub has_break : Statement → Bool
-  has_break (Node' place what locals values m row) =
-      is_break what || (passes_breaks what && some_break row)
+  has_break (Node' place what locals values m row) = breaking what (breaks_in row)
 
-  pub some_break : {m : _} → Row_of-Statement m → Bool
-  some_break end_of-Statement = false
-  some_break (more_of-Statement s ss) = has_break s || some_break ss
+  pub breaks_in : {m : _} → Row_of-Statement m → List Bool
+  breaks_in end_of-Statement = []
+  breaks_in (more_of-Statement s ss) = has_break s ∷ breaks_in ss
 
 -- how a statement closes: by itself, where both branches close, where its last part does, as a loop
 abbrev pub is_return : StatementKind → Bool
@@ -60,19 +77,15 @@ abbrev pub is_block : StatementKind → Bool
 is_block kind.Block = true
 is_block _ = false
 
+abbrev pub closing : StatementKind → List Value → List Bool → List Bool → Bool
+closing what values breaks closed =
+    is_return what
+    || ((is_if what && both closed) || ((is_block what && last_one closed) || (goes_on what values && not (some breaks))))
+
 abbrev mutual
   pub closes : Statement → Bool
-  closes (Node' place what locals values m row) =
-      is_return what
-      || ((is_if what && both_close row)
-      || ((is_block what && last_closes row)
-      || (goes_on what values && not (some_break row))))
+  closes (Node' place what locals values m row) = closing what values (breaks_in row) (closed_in row)
 
-  pub both_close : {m : _} → Row_of-Statement m → Bool
-  both_close end_of-Statement = false
-  both_close (more_of-Statement s ss) = closes s && last_closes ss
-
-  pub last_closes : {m : _} → Row_of-Statement m → Bool
-  last_closes end_of-Statement = false
-  last_closes (more_of-Statement s end_of-Statement) = closes s
-  last_closes (more_of-Statement s (more_of-Statement t ts)) = last_closes (more_of-Statement t ts)
+  pub closed_in : {m : _} → Row_of-Statement m → List Bool
+  closed_in end_of-Statement = []
+  closed_in (more_of-Statement s ss) = closes s ∷ closed_in ss

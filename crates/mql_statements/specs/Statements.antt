@@ -1,9 +1,10 @@
 -- Statements: their rules, one named test each in the order of their numbers, and what they are typed (MQL5
 -- Reference, Language Basics, Operators; Variables).
-use Rattle.std.specs.Prelude.{ℕ, zero, ◌+◌, ℤ, pos, Bool, true, false, not, ◌&&◌, ◌||◌, ◌==◌, ◌-ℤ◌, suc, List, [], ◌∷◌, ◌++◌, length, map, flat_map, drop, Option, Some, None, is_some, is_none, option_map, if◌then◌else◌}
+use Rattle.std.specs.Prelude.{ℕ, zero, ◌+◌, ℤ, pos, Bool, true, false, not, ◌&&◌, ◌||◌, ◌==◌, suc, List, [], ◌∷◌, ◌++◌, length, map, flat_map, drop, Option, Some, None, is_some, is_none, option_map, if◌then◌else◌}
+use Rattle.std.specs.Ordering.{int_eq}
 use Rattle.fx8.specs.declared.int_kind.IntKind.{IntKind}
 use Rattle.fx8.specs.declared.int_kind.IntKind.TheVariants as int_kind
-use Rattle.fx8.specs.Integers.{wrapped, is_zero}
+use Rattle.fx8.specs.Integers.{wrapped}
 use Rattle.mql_mean.specs.declared.value.Value.TheVariants as value
 use Rattle.mql_mean.specs.declared.value.Value as constant
 use Rattle.mql_meaning.specs.declared.types.VarType.{VarType}
@@ -44,35 +45,13 @@ use Rattle.mql_scope.specs.Names.{stands_at}
 use Rattle.mql_calls.specs.Nodes.{passes, nth, is_void, is_whole_array, some_part}
 use Rattle.mql_expressions.specs.Rules.{no_fit, no_integer, no_condition}
 use Rattle.mql_expressions.specs.Values.{Found, found, innermost, broken_at, found_all, infos_in, broken_in, used_in, kept_by}
+use Rattle.mql_statements.specs.declared.told.LabelValue.{LabelValue}
+use Rattle.mql_statements.specs.declared.told.LabelValue.TheVariants.{Default, NoConstant, Number}
+use Rattle.mql_statements.specs.declared.told.Label.{Label}
+use Rattle.mql_statements.specs.declared.told.Static.{Static}
+use Rattle.mql_statements.specs.declared.told.Told.{Told}
+use Rattle.mql_statements.specs.Closing.{is_return}
 use Rattle.mql_statements.specs.Initialisers.{Begun, nothing_begun, started, start_constant}
-
--- a label of a `switch`: its number, none for `default`, where it is known; and how many statements stand before it
-pub data LabelValue : Type 0 where
-  Default : LabelValue
-  NoConstant : LabelValue
-  Number : ℤ → LabelValue
-
-pub record Label : Type 0 where
-  pub label : LabelValue
-  pub before : ℕ
-
--- a static variable of a function, and what it begins with, at a line
-pub record Static : Type 0 where
-  pub of : VarType
-  pub line : ℕ
-  pub steps : List Expression
-
--- what a statement is typed: statements, the locals that it takes, the variables that it declares in the scope
--- around it, its static variables, its labels in a `switch`, the rules that may be told, and the numbers of the
--- functions that are called
-pub record Told : Type 0 where
-  pub typed : List typed.Statement
-  pub kept : List VarType
-  pub declared : List Known
-  pub statics : List Static
-  pub labels : List Label
-  pub broken : List Broken
-  pub used : List ℕ
 
 abbrev pub nothing_told : Told
 nothing_told =
@@ -102,13 +81,13 @@ abbrev pub behind_scope : Told → Context → Context
 behind_scope t c = behind t.kept [] (length t.statics) c
 
 -- the type of a variable where these locals are in force: sizes are constants
+abbrev pub size_at : Option ℤ → ℕ
+size_at (Some (pos n)) = n
+size_at _ = 0
+
 abbrev pub size_in : Option constant.Value → ℕ
 size_in None = 0
-size_in (Some v) = elim (number_of v) [ None ↦ 0 | Some x ↦ size_at x ]
-  where
-    size_at : ℤ → ℕ
-    size_at (pos n) = n
-    size_at _ = 0
+size_in (Some v) = size_at (number_of v)
 
 abbrev pub size_of : Program → List Known → Dimension → ℕ
 size_of p ks Open = 0
@@ -195,20 +174,15 @@ abbrev pub declares_all : Context → List Variable → Told
 declares_all c [] = nothing_told
 declares_all c (v ∷ vs) = let t = declares c v in then_told t (declares_all (behind_told t c) vs)
 
--- a statement with what its values tell and its labels
-pub record Step : Type 0 where
-  pub what : StatementKind
-  pub values : List (Option Info)
-  pub labels : List Label
+-- a test of the first value, and of its type
+abbrev pub ask_value : (Info → Bool) → List (Option Info) → Bool
+ask_value test is = passes test (nth 0 is)
 
-abbrev pub Rule : Type 0
-Rule = Context → Step → Bool
+abbrev pub first_base : List (Option Info) → Option Base
+first_base is = elim (nth 0 is) [ None ↦ None | Some i ↦ value_base i ]
 
-abbrev pub ask_value : (Info → Bool) → Step → Bool
-ask_value test s = passes test (nth 0 s.values)
-
-abbrev pub ask_type : (Base → Bool) → Step → Bool
-ask_type test s = ask_value (λ i. passes test (value_base i)) s
+abbrev pub ask_type : (Base → Bool) → List (Option Info) → Bool
+ask_type test is = passes test (first_base is)
 
 -- a test stands first in it; a value must stand in it
 abbrev pub is_tested : StatementKind → Bool
@@ -222,10 +196,6 @@ abbrev pub is_switch : StatementKind → Bool
 is_switch kind.Switch = true
 is_switch _ = false
 
-abbrev pub is_return : StatementKind → Bool
-is_return kind.Return = true
-is_return _ = false
-
 abbrev pub is_delete : StatementKind → Bool
 is_delete kind.Delete = true
 is_delete _ = false
@@ -234,16 +204,16 @@ abbrev pub wants_value : StatementKind → Bool
 wants_value k = is_tested k || (is_switch k || (is_return k || is_delete k))
 
 -- 13 what is returned has no conversion to the result
-abbrev pub return_no_fit : Rule
-return_no_fit c s = is_return s.what && passes (λ b. ask_type (no_fit b) s) c.result
+abbrev pub return_no_fit : Option Base → StatementKind → List (Option Info) → Bool
+return_no_fit result what is = is_return what && passes (λ b. ask_type (no_fit b) is) result
 
 -- 17 a condition is no number
-abbrev pub test_no_number : Rule
-test_no_number c s = is_tested s.what && ask_value no_condition s
+abbrev pub test_no_number : StatementKind → List (Option Info) → Bool
+test_no_number what is = is_tested what && ask_value no_condition is
 
 -- 18 the value of a `switch` is no integer
-abbrev pub switch_no_integer : Rule
-switch_no_integer c s = is_switch s.what && ask_type no_integer s
+abbrev pub switch_no_integer : StatementKind → List (Option Info) → Bool
+switch_no_integer what is = is_switch what && ask_type no_integer is
 
 -- 19 a label is no constant integer
 abbrev pub no_constant : LabelValue → Bool
@@ -254,23 +224,20 @@ abbrev pub some_no_constant : List Label → Bool
 some_no_constant [] = false
 some_no_constant (l ∷ ls) = no_constant l.label || some_no_constant ls
 
-abbrev pub label_no_constant : Rule
-label_no_constant c s = some_no_constant s.labels
-
 -- 20 a label is repeated: two are equal as numbers of the value's kind
+abbrev pub sort_kind : Option Sort → IntKind
+sort_kind (Some (sort.Number k)) = k
+sort_kind _ = int_kind.Int
+
 abbrev pub switch_kind : Option Base → IntKind
 switch_kind None = int_kind.Int
-switch_kind (Some b) = elim (unary_sort b) [ None ↦ int_kind.Int | Some s ↦ kind_of s ]
-  where
-    kind_of : Sort → IntKind
-    kind_of (sort.Number k) = k
-    kind_of _ = int_kind.Int
+switch_kind (Some b) = sort_kind (unary_sort b)
 
 abbrev pub value_kind : List (Option Info) → IntKind
-value_kind is = elim (nth 0 is) [ None ↦ int_kind.Int | Some i ↦ switch_kind (value_base i) ]
+value_kind is = switch_kind (first_base is)
 
 abbrev pub same_number : IntKind → ℤ → ℤ → Bool
-same_number k x y = is_zero (wrapped k x -ℤ wrapped k y)
+same_number k x y = int_eq (wrapped k x) (wrapped k y)
 
 abbrev pub same_label : IntKind → LabelValue → LabelValue → Bool
 same_label k Default Default = true
@@ -285,81 +252,88 @@ abbrev pub some_twice : IntKind → List Label → Bool
 some_twice k [] = false
 some_twice k (l ∷ ls) = stands_in k l.label ls || some_twice k ls
 
-abbrev pub label_repeated : Rule
-label_repeated c s = some_twice (value_kind s.values) s.labels
+abbrev pub label_repeated : List (Option Info) → List Label → Bool
+label_repeated is ls = some_twice (value_kind is) ls
 
 -- 21 `break` or `continue` outside
-abbrev pub outside_at : StatementKind → Context → Bool
-outside_at kind.Break c = not c.breaks
-outside_at kind.Continue c = not c.continues
-outside_at _ c = false
-
-abbrev pub outside : Rule
-outside c s = outside_at s.what c
+abbrev pub outside : Bool → Bool → StatementKind → Bool
+outside breaks continues kind.Break = not breaks
+outside breaks continues kind.Continue = not continues
+outside breaks continues _ = false
 
 -- 22 `return` with or without a value against the result
 abbrev pub is_empty : List (Option Info) → Bool
 is_empty [] = true
 is_empty (i ∷ is) = false
 
-abbrev pub against_result : Rule
-against_result c s =
-    is_return s.what && (if is_empty s.values then is_some c.result else is_none c.result)
+abbrev pub against_result : Option Base → StatementKind → List (Option Info) → Bool
+against_result result what is =
+    is_return what && (if is_empty is then is_some result else is_none result)
 
 -- 23 nothing is used as a value
-abbrev pub void_used : Rule
-void_used c s = wants_value s.what && ask_value is_void s
+abbrev pub void_used : StatementKind → List (Option Info) → Bool
+void_used what is = wants_value what && ask_value is_void is
 
 -- 26 a whole array is used as a value
-abbrev pub array_used : Rule
-array_used c s = wants_value s.what && ask_value is_whole_array s
+abbrev pub array_used : StatementKind → List (Option Info) → Bool
+array_used what is = wants_value what && ask_value is_whole_array is
 
 -- 28 `delete` of no pointer: there is only `NULL` yet
 abbrev pub no_pointer : Base → Bool
 no_pointer b = not (is_null b)
 
-abbrev pub deletes_no_pointer : Rule
-deletes_no_pointer c s = is_delete s.what && ask_type no_pointer s
+abbrev pub deletes_no_pointer : StatementKind → List (Option Info) → Bool
+deletes_no_pointer what is = is_delete what && ask_type no_pointer is
 
-pub record Numbered : Type 0 where
+-- a rule by its number, and whether it is broken
+pub record Asked : Type 0 where
   pub number : ℕ
-  pub test : Rule
+  pub broken : Bool
 
-abbrev pub rule : ℕ → Rule → Numbered
-rule k r = record { number = k; test = r }
+abbrev pub rule : ℕ → Bool → Asked
+rule k b = record { number = k; broken = b }
 
--- the rules that statements break by themselves
-abbrev pub rules : List Numbered
-rules =
-    rule 13 return_no_fit ∷ rule 17 test_no_number ∷ rule 18 switch_no_integer ∷ rule 19 label_no_constant ∷
-    rule 20 label_repeated ∷ rule 21 outside ∷ rule 22 against_result ∷ rule 23 void_used ∷
-    rule 26 array_used ∷ rule 28 deletes_no_pointer ∷ []
+-- the rules that statements break by themselves, asked of a statement with what its values tell and its labels
+abbrev pub rules : Context → StatementKind → List (Option Info) → List Label → List Asked
+rules c what is ls =
+    rule 13 (return_no_fit c.result what is) ∷ rule 17 (test_no_number what is) ∷
+    rule 18 (switch_no_integer what is) ∷ rule 19 (some_no_constant ls) ∷ rule 20 (label_repeated is ls) ∷
+    rule 21 (outside c.breaks c.continues what) ∷ rule 22 (against_result c.result what is) ∷
+    rule 23 (void_used what is) ∷ rule 26 (array_used what is) ∷ rule 28 (deletes_no_pointer what is) ∷ []
 
-abbrev pub lowest_in : List Numbered → Context → Step → Option ℕ
-lowest_in [] c s = None
-lowest_in (r ∷ rs) c s = if r.test c s then Some r.number else lowest_in rs c s
+abbrev pub lowest_in : List Asked → Option ℕ
+lowest_in [] = None
+lowest_in (r ∷ rs) = if r.broken then Some r.number else lowest_in rs
 
-unfoldable pub lowest : Context → Step → Option ℕ
-lowest c s = lowest_in rules c s
+unfoldable pub lowest : Context → StatementKind → List (Option Info) → List Label → Option ℕ
+lowest c what is ls = lowest_in (rules c what is ls)
 
--- statements in a scope of their own: its locals begin anew
+-- the locals of a scope begin anew, where it declares any
 abbrev pub anew : ℕ → ℕ → Told → typed.Statement
 anew line first t = made.Reset line first (first + length t.kept)
-
-abbrev pub scoped : ℕ → ℕ → Told → List typed.Statement
-scoped line first t = anew line first t ∷ t.typed
 
 abbrev pub has_declared : List Known → Bool
 has_declared [] = false
 has_declared (k ∷ ks) = true
 
-abbrev pub in_scope : ℕ → ℕ → Told → List typed.Statement
-in_scope line first t = if has_declared t.declared then scoped line first t else t.typed
+abbrev pub beginning : ℕ → ℕ → Told → Option typed.Statement
+beginning line first t = if has_declared t.declared then Some (anew line first t) else None
 
--- a statement that is a scope
+-- statements behind what begins anew; where anything does, in a block
+abbrev pub begun_by : Option typed.Statement → List typed.Statement → List typed.Statement
+begun_by None ss = ss
+begun_by (Some s) ss = s ∷ ss
+
+abbrev pub in_block : ℕ → Option typed.Statement → List typed.Statement → List typed.Statement
+in_block line None ss = ss
+in_block line (Some s) ss = made.Block line (s ∷ ss) [] ∷ []
+
+-- the statements of a scope, and a statement that is a scope
+abbrev pub in_scope : ℕ → ℕ → Told → List typed.Statement
+in_scope line first t = begun_by (beginning line first t) t.typed
+
 abbrev pub scope_statements : ℕ → ℕ → Told → List typed.Statement
-scope_statements line first t =
-    if has_declared t.declared then made.Block line (scoped line first t) [] ∷ [] else t.typed
+scope_statements line first t = in_block line (beginning line first t) t.typed
 
 -- the typed values of a statement
 abbrev pub typed_value : (Info → Expression) → Option Info → List Expression
@@ -390,58 +364,69 @@ abbrev pub for_step : Bool → List (Option Info) → List Expression
 for_step true is = typed_values (drop 1 is)
 for_step false is = typed_values is
 
+abbrev pub for_loop : ℕ → Bool → List (Option Info) → List typed.Statement → typed.Statement
+for_loop line tested is body = looped line false (for_test tested is) (for_step tested is) body
+
 -- `switch`: its value and its labels are taken into one kind
+abbrev pub label_value : IntKind → LabelValue → List constant.Value
+label_value k (Number x) = value.Num k (wrapped k x) ∷ []
+label_value k _ = []
+
 abbrev pub label_values : IntKind → List Label → List constant.Value
 label_values k [] = []
 label_values k (l ∷ ls) = label_value k l.label ++ label_values k ls
-  where
-    label_value : IntKind → LabelValue → List constant.Value
-    label_value k (Number x) = value.Num k (wrapped k x) ∷ []
-    label_value k _ = []
+
+abbrev pub label_place : LabelValue → ℕ → List ℕ
+label_place (Number x) n = n ∷ []
+label_place _ n = []
 
 abbrev pub label_places : List Label → List ℕ
 label_places [] = []
 label_places (l ∷ ls) = label_place l.label l.before ++ label_places ls
-  where
-    label_place : LabelValue → ℕ → List ℕ
-    label_place (Number x) n = n ∷ []
-    label_place _ n = []
 
 -- the place of `default`, or the end
+abbrev pub default_at : LabelValue → ℕ → ℕ → ℕ
+default_at Default n other = n
+default_at _ n other = other
+
 abbrev pub default_place : ℕ → List Label → ℕ
 default_place end [] = end
 default_place end (l ∷ ls) = default_at l.label l.before (default_place end ls)
-  where
-    default_at : LabelValue → ℕ → ℕ → ℕ
-    default_at Default n other = n
-    default_at _ n other = other
+
+abbrev pub switched_of : ℕ → IntKind → Expression → List Label → List typed.Statement → typed.Statement
+switched_of line k e ls ss =
+    made.Switch line e (label_values k ls) (label_places ls) (default_place (length ss) ls) ss
+
+abbrev pub switched_on : ℕ → Option Info → Told → List typed.Statement
+switched_on line None t = []
+switched_on line (Some i) t =
+    let k = switch_kind (value_base i) in
+    switched_of line k (into_sort (sort.Number k) i) t.labels t.typed ∷ []
 
 abbrev pub switched : ℕ → List (Option Info) → Told → List typed.Statement
-switched line is t =
-    elim (nth 0 is) [
-      | None ↦ []
-      | Some i ↦
-          let k = switch_kind (value_base i) in
-          made.Switch line (into_sort (sort.Number k) i) (label_values k t.labels) (label_places t.labels)
-          (default_place (length t.typed) t.labels) t.typed ∷ []
-    ]
+switched line is t = switched_on line (nth 0 is) t
 
 -- a `switch` whose locals begin anew
 abbrev pub switch_statements : ℕ → ℕ → List (Option Info) → Told → List typed.Statement
-switch_statements line first is t =
-    if has_declared t.declared
-    then made.Block line (anew line first t ∷ switched line is t) [] ∷ []
-    else switched line is t
+switch_statements line first is t = in_block line (beginning line first t) (switched line is t)
 
 -- `return`
 abbrev pub returned : Option Base → Option Info → List Expression
 returned (Some b) (Some i) = converted b i ∷ []
 returned _ _ = []
 
+-- `delete`
+abbrev pub deleted : Option Info → List Expression
+deleted i = typed_value (λ j. expression.Delete (value_of j ∷ [])) i
+
 -- a label's number
+abbrev pub number_label : Option ℤ → LabelValue
+number_label None = NoConstant
+number_label (Some x) = Number x
+
 abbrev pub label_number : Option constant.Value → LabelValue
 label_number None = NoConstant
-label_number (Some v) = elim (number_of v) [ None ↦ NoConstant | Some x ↦ Number x ]
+label_number (Some v) = number_label (number_of v)
 
 abbrev pub label_told : Program → List Known → List Value → LabelValue
 label_told p ks [] = NoConstant
@@ -498,10 +483,7 @@ branch line n ts = (nth_told n ts).typed
 -- what a `for` begins with, and then the loop
 abbrev pub for_statements : ℕ → ℕ → Bool → List (Option Info) → Told → Told → List typed.Statement
 for_statements line first tested is begin body =
-    let loop = looped line false (for_test tested is) (for_step tested is) body.typed in
-    if has_declared begin.declared
-    then made.Block line (anew line first begin ∷ (begin.typed ++ loop ∷ [])) [] ∷ []
-    else begin.typed ++ loop ∷ []
+    in_block line (beginning line first begin) (begin.typed ++ for_loop line tested is body.typed ∷ [])
 
 abbrev pub statements :
     StatementKind → ℕ → ℕ → Option Base → List (Option Info) → Told → List Told → List typed.Statement
@@ -524,7 +506,7 @@ statements kind.Break line first result is own ts = made.Break line ∷ []
 statements kind.Continue line first result is own ts = made.Continue line ∷ []
 statements kind.Return line first result is own ts = made.Return line (returned result (nth 0 is)) ∷ []
 statements kind.Delete line first result is own ts =
-    evaluated line (typed_value (λ i. expression.Delete (value_of i ∷ [])) (nth 0 is))
+    evaluated line (deleted (nth 0 is))
 
 -- a part that is a scope of its own
 abbrev pub own_scope : ℕ → ℕ → Told → Told
@@ -559,9 +541,9 @@ label_of p ks kind.Case vs = a_label (label_told p ks vs)
 label_of p ks kind.Default vs = a_label Default
 label_of p ks _ vs = []
 
--- a statement of what it has
-abbrev pub step_of : StatementKind → Parts → Step
-step_of what x = record { what = what; values = infos_in x.values; labels = labels_for what x.parts }
+-- the lowest rule that a statement of what it has breaks
+abbrev pub lowest_of : Context → StatementKind → Parts → Option ℕ
+lowest_of c what x = lowest c what (infos_in x.values) (labels_for what x.parts)
 
 abbrev pub told_of : Context → Place → StatementKind → List Value → Parts → Told
 told_of c place what vs x =
@@ -572,7 +554,7 @@ told_of c place what vs x =
       statics = x.variables.statics ++ statics_in x.parts;
       labels = label_of c.program c.locals what vs;
       broken = innermost place (x.variables.broken ++ (broken_in x.values ++ (broken_parts x.parts
-          ++ broken_at place (lowest c (step_of what x)))));
+          ++ broken_at place (lowest_of c what x))));
       used = x.variables.used ++ (used_in x.values ++ used_parts x.parts);
     }
 

@@ -1,2 +1,13 @@
 //! Typing of statements: what variables begin with, the rules of statements, where the end of a function is reached.
 #![tactic(auto)]
+
+mod closing;
+mod labels;
+mod rules;
+mod told;
+mod variables;
+
+pub use closing::closes;
+pub use rules::lowest;
+pub use told::{Label, LabelValue, Static, Told, joined, nothing_told, then_told};
+pub use variables::{declared_standing, dimensions_of, known, size_of, variable_type};

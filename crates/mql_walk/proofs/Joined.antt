@@ -261,7 +261,7 @@ things_of_statement_rolled : (locals : List Name) (w : Statement-F Statement)
 unfolding roll-Statement denote.Hole.Carrier.roll
 things_of_statement_rolled locals (Statement-F.Node p what own vs ss) = things_of_statement_node locals p what own vs ss
 
-things_of_statement : (s : Statement) (locals : List Name)
+pub things_of_statement : (s : Statement) (locals : List Name)
     → statement_things locals s ≡ made_of locals (statement_place s) (statement_kind s) (statement_locals s) (statement_values s) (statement_parts s)
 things_of_statement s locals = ap (statement_things locals) (sym (roll-out-Statement s)) ∙ things_of_statement_rolled locals (out-Statement s)
 

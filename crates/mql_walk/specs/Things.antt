@@ -1,5 +1,5 @@
--- What is written in a program, in the order of the text, each with what a rule asks about it and with the names of the locals that are in
--- force there (MQL5 Reference, Language Basics; Variables, Visibility Scope).
+-- What is written in a program, in the order of the text, each with what a rule asks about it and with the
+-- names of the locals that are in force there (MQL5 Reference, Language Basics; Variables, Visibility Scope).
 use Rattle.std.specs.Prelude.{Bool, true, false, List, [], ◌∷◌, ◌++◌, map, flat_map, Option, Some, None, if◌then◌else◌}
 use Rattle.mql_syntax.specs.declared.value.TypeUse.{TypeUse}
 use Rattle.mql_syntax.specs.declared.value.Operation.{Operation}

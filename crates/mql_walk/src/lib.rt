@@ -8,3 +8,5 @@ mod values;
 
 pub use items::judged;
 pub use judge::Judge;
+pub use statements::behind;
+pub use values::{is_local, with_local, with_locals};

@@ -27,8 +27,8 @@ fn own_told<J: Judge>(
     Ok((told, behind))
 }
 
-/// The names of the locals in force behind a statement.
-fn behind(
+/// The names of the locals in force behind a statement, which may share its scope with what stands there.
+pub fn behind(
     alloc: Global,
     shared: bool,
     locals: ItemList<Text>,

@@ -1,6 +1,7 @@
 //! The walk over values and variables.
 ghost use Rattle.std.specs.Prelude.{◌≡◌, ℕ, List, [], ◌∷◌, ◌++◌, map, IfOk};
 ghost use Rattle.std.specs.List.{flat_map};
+ghost use Rattle.mql_names.specs.Scopes.{is_among};
 ghost use Rattle.mql_names.specs.Things.{variable_name};
 ghost use Rattle.mql_walk.specs.Things.{told_by, value_things, dimension_things, start_things, variable_things, variables_things};
 ghost use Rattle.mql_walk.specs.Things as thing;
@@ -103,8 +104,22 @@ pub(crate) fn variable_told<J: Judge>(
     Ok(sooner(of, sooner(own, sooner(dimensions, start))))
 }
 
+/// Whether a name is among the names of locals.
+pub fn is_local(locals: &[Text], name: &[u16]) -> bool
+    ensures { result ≡ is_among name.now locals.now }
+{
+    let mut rest = locals;
+    while let [local, others @ ..] = rest {
+        if local.as_slice() == name {
+            return true;
+        }
+        rest = others;
+    }
+    false
+}
+
 /// The names of locals with one more.
-pub(crate) fn with_local(
+pub fn with_local(
     alloc: Global,
     mut locals: ItemList<Text>,
     v: &Variable,
@@ -116,7 +131,7 @@ pub(crate) fn with_local(
 }
 
 /// The names of locals with those of variables.
-pub(crate) fn with_locals(
+pub fn with_locals(
     alloc: Global,
     mut locals: ItemList<Text>,
     variables: &[Variable],

@@ -1,3 +1,0 @@
-pub mod Asked
-pub mod NameLaws
-pub mod Shown

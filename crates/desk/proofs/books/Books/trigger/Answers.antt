@@ -1,0 +1,11 @@
+use Rattle.std.proofs.Common.{◌∙◌, refl, ap}
+use Rattle.account.specs.declared.event.Event.TheVariants as event
+use Rattle.desk.specs.Books.{Kept}
+use Rattle.desk.proofs.Stepping.{step_quiet}
+use Rattle.desk.proofs.books.Books.trigger.Goals as goal
+
+pub invariant_of-self-2 : goal.invariant_of-self-2
+invariant_of-self-2 g c = λ e.
+    step_quiet (g.P.PositionRule.hedging c.self.inside.rule) (g.P.PositionRule.hedging c.self.inside.rule) (g.P.PositionRule.specs c.self.inside.rule) (g.P.PositionRule.specs c.self.inside.rule) (g.P.PositionRule.positions c.self.inside.rule) (g.P.PositionRule.positions c.self.inside.rule)
+    c.self.inside.orders c.trigger-stands.new.self c.self.inside.last c.self.inside.quoted c.enter.new.self (event.Triggered c.args.ticket) refl
+    (c.self.invariant (ap (λ (k : Kept). k.broken) c.self.view_is ∙ c.requires.whole)) refl refl refl c.trigger-stands.ensures.rest c.in_ok-enter.ensures.ok

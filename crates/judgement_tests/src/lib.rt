@@ -1,5 +1,0 @@
-//! Tests of judgement.
-#![tactic(auto)]
-
-#[cfg(test)]
-mod codes;

@@ -1,9 +1,0 @@
-use Rattle.std.proofs.Common.{◌≡◌, ◌++◌, map, take, drop}
-use Rattle.std.specs.List.{flat_map}
-use Rattle.mql_names.specs.Maps.{meaning}
-use Rattle.mql_sizes.specs.Maps.{value_at}
-use Rattle.mql_decls.specs.Declarations as spec
-use Rattle.mql_decls.proofs.made.param_forms.Given as goal
-
-abbrev pub invariant-loop-q : goal.invariant-loop-q
-invariant-loop-q l = l.found ≡ map (spec.param_form (meaning l.names) (value_at l.values)) (take l.q-index l.params)

@@ -1,0 +1,7 @@
+use Rattle.std.proofs.Common.{◌≡◌, ◌++◌, drop}
+use Rattle.mql_decls.specs.Makes.{knowing}
+use Rattle.mql_decls.specs.Declarations as spec
+use Rattle.mql_decls.proofs.maker.Maker.statics.Given as goal
+
+abbrev pub invariant-loop-n : goal.invariant-loop-n
+invariant-loop-n l = l.found ++ spec.numbered (knowing l.self spec.item_statics) l.n (drop l.n l.items) ≡ spec.numbered (knowing l.self spec.item_statics) 0 l.items

@@ -1,0 +1,7 @@
+//! Parents of structures.
+#![tactic(auto)]
+
+mod known;
+mod rules;
+
+pub use rules::parents_told;
