@@ -29,3 +29,10 @@ pub behind : (c : Context) (n : Node) (rs ss : List Numbered) (a b result : Opti
     → a ≡ lowest_in rs c n → b ≡ lowest_in ss c n → result ≡ either a b → result ≡ lowest_in (rs ++ ss) c n
 behind c n rs ss a b result e f g =
     g ∙ ap (λ x. either x b) e ∙ ap (λ x. either (lowest_in rs c n) x) f ∙ sym (joined c n rs ss)
+
+-- the last of two that are there, where one is there by a test
+pub last_hit : {A : Type 0} (a : Option A) (b : Bool) (x : A) (hit : Option A)
+    → either (either a (if b then Some x else None)) hit ≡ either a (if b then Some x else hit)
+last_hit (Some y) b x hit = refl
+last_hit None true x hit = refl
+last_hit None false x hit = refl

@@ -1,5 +1,5 @@
 -- The walk over expressions, in parts.
-use Rattle.std.proofs.Common.{◌≡◌, ℕ, Bool, true, false, List, [], ◌∷◌, ◌++◌, Option, Some, None, refl, sym, ap, ◌∙◌}
+use Rattle.std.proofs.Common.{◌≡◌, ℕ, Bool, true, false, List, [], ◌∷◌, ◌++◌, Option, Some, None, Result, IfOk, refl, sym, ap, subst, ◌∙◌}
 use Rattle.std.proofs.lemmas.List.{append-nil, append_assoc}
 use Rattle.mql_syntax.specs.declared.kind.Place.{Place}
 use Rattle.mql_syntax.specs.declared.value.TypeUse.{TypeUse}
@@ -16,7 +16,7 @@ use Rattle.mql_typed.specs.declared.info.Info.{Info}
 use Rattle.mql_scope.specs.Contexts.{Text, Context}
 use Rattle.mql_expressions.specs.declared.findings.Found.{Found}
 use Rattle.mql_expressions.specs.declared.findings.Founds.{Founds}
-use Rattle.mql_expressions.specs.Values.{infos_in, broken_in, used_in, name_of, name_of_first, called_in, first_name, called, is_named, behind_info, node, found_at, found, founds, found_all, founds_of, told_parts, all_behind}
+use Rattle.mql_expressions.specs.Values.{infos_in, broken_in, used_in, name_of, name_of_first, called_in, first_name, called, is_named, behind_info, node, found_at, found, founds, found_all, founds_of, with_found, told_parts, all_behind}
 
 -- parts as a list
 founds_of_row : (n : _) (c : Context) (row : Row_of-Value n) → founds c false row ≡ found_all c (items-the_row-Value n row)
@@ -112,6 +112,15 @@ at_value c v p o types parts x b fs r e1 e2 e3 e4 h k l s =
     ∙ ap (made_found c (value_place v) (value_what v) (value_types v)) e4
     ∙ sym (found_of_value c v)
 
+-- the same of a call that may fail
+pub whole : {E : Type 0} (c : Context) (v : Value) (p : Place) (o : Operation) (types : List TypeUse)
+    (parts : List Value) (x : Option Text) (b : Bool) (fs : Founds) (r : Result Found E)
+    → p ≡ value_place v → o ≡ value_what v → types ≡ value_types v → parts ≡ value_parts v
+    → x ≡ called_in o parts → b ≡ is_named x → fs ≡ founds_of (found_all c (told_parts b parts))
+    → IfOk r (λ f. f ≡ found_at c (node p o types x fs.infos) fs.broken fs.used) → IfOk r (λ f. f ≡ found c v)
+whole c v p o types parts x b fs r e1 e2 e3 e4 h k l s =
+    subst (λ y. IfOk r (λ f. f ≡ y)) (at_value c v p o types parts x b fs _ e1 e2 e3 e4 h k l refl) s
+
 -- one more of a list
 pub found_more : (c : Context) (vs : List Value) (v : Value)
     → found_all c (vs ++ v ∷ []) ≡ found_all c vs ++ found (all_behind c vs) v ∷ []
@@ -135,17 +144,18 @@ used_more : (fs : List Found) (f : Found) → used_in (fs ++ f ∷ []) ≡ used_
 used_more [] f = append-nil f.used
 used_more (g ∷ gs) f = ap (λ ns. g.used ++ ns) (used_more gs f) ∙ sym (append_assoc g.used (used_in gs) f.used)
 
-pub all_infos_more : (c : Context) (vs : List Value) (v : Value)
-    → infos_in (found_all c (vs ++ v ∷ [])) ≡ infos_in (found_all c vs) ++ (found (all_behind c vs) v).info ∷ []
-all_infos_more c vs v = ap infos_in (found_more c vs v) ∙ infos_more (found_all c vs) (found (all_behind c vs) v)
+abbrev founds_with : List (Option Info) → List Broken → List ℕ → Founds
+founds_with is bs ns = record { infos = is; broken = bs; used = ns }
 
-pub all_broken_more : (c : Context) (vs : List Value) (v : Value)
-    → broken_in (found_all c (vs ++ v ∷ [])) ≡ broken_in (found_all c vs) ++ (found (all_behind c vs) v).broken
-all_broken_more c vs v = ap broken_in (found_more c vs v) ∙ broken_more (found_all c vs) (found (all_behind c vs) v)
+of_more : (fs : List Found) (f : Found) → founds_of (fs ++ f ∷ []) ≡ with_found (founds_of fs) f
+of_more fs f =
+    ap (λ is. founds_with is (broken_in (fs ++ f ∷ [])) (used_in (fs ++ f ∷ []))) (infos_more fs f)
+    ∙ ap (λ bs. founds_with (infos_in fs ++ f.info ∷ []) bs (used_in (fs ++ f ∷ []))) (broken_more fs f)
+    ∙ ap (founds_with (infos_in fs ++ f.info ∷ []) (broken_in fs ++ f.broken)) (used_more fs f)
 
-pub all_used_more : (c : Context) (vs : List Value) (v : Value)
-    → used_in (found_all c (vs ++ v ∷ [])) ≡ used_in (found_all c vs) ++ (found (all_behind c vs) v).used
-all_used_more c vs v = ap used_in (found_more c vs v) ∙ used_more (found_all c vs) (found (all_behind c vs) v)
+founds_more : (c : Context) (vs : List Value) (v : Value)
+    → founds_of (found_all c (vs ++ v ∷ [])) ≡ with_found (founds_of (found_all c vs)) (found (all_behind c vs) v)
+founds_more c vs v = ap founds_of (found_more c vs v) ∙ of_more (found_all c vs) (found (all_behind c vs) v)
 
 -- the turn of the loop over expressions
 pub context_step : (c : Context) (vs : List Value) (v : Value) (at next : Context) (f : Found)
@@ -154,26 +164,10 @@ context_step c vs v at next f e h k =
     k ∙ ap (λ (g : Found). behind_info g.info at) h
     ∙ ap (λ (a : Context). behind_info (found a v).info a) e ∙ sym (behind_more c vs v)
 
-pub infos_step : (c : Context) (vs : List Value) (v : Value) (at : Context) (f : Found) (is js : List (Option Info))
-    → at ≡ all_behind c vs → f ≡ found at v → is ≡ infos_in (found_all c vs) → js ≡ is ++ f.info ∷ []
-    → js ≡ infos_in (found_all c (vs ++ v ∷ []))
-infos_step c vs v at f is js e h k l =
-    l ∙ ap (λ ks. ks ++ f.info ∷ []) k
-    ∙ ap (λ (g : Found). infos_in (found_all c vs) ++ g.info ∷ []) (h ∙ ap (λ a. found a v) e)
-    ∙ sym (all_infos_more c vs v)
-
-pub broken_step : (c : Context) (vs : List Value) (v : Value) (at : Context) (f : Found) (is js : List Broken)
-    → at ≡ all_behind c vs → f ≡ found at v → is ≡ broken_in (found_all c vs) → js ≡ is ++ f.broken
-    → js ≡ broken_in (found_all c (vs ++ v ∷ []))
-broken_step c vs v at f is js e h k l =
-    l ∙ ap (λ ks. ks ++ f.broken) k
-    ∙ ap (λ (g : Found). broken_in (found_all c vs) ++ g.broken) (h ∙ ap (λ a. found a v) e)
-    ∙ sym (all_broken_more c vs v)
-
-pub used_step : (c : Context) (vs : List Value) (v : Value) (at : Context) (f : Found) (is js : List ℕ)
-    → at ≡ all_behind c vs → f ≡ found at v → is ≡ used_in (found_all c vs) → js ≡ is ++ f.used
-    → js ≡ used_in (found_all c (vs ++ v ∷ []))
-used_step c vs v at f is js e h k l =
-    l ∙ ap (λ ks. ks ++ f.used) k
-    ∙ ap (λ (g : Found). used_in (found_all c vs) ++ g.used) (h ∙ ap (λ a. found a v) e)
-    ∙ sym (all_used_more c vs v)
+pub founds_step : (c : Context) (vs : List Value) (v : Value) (at : Context) (f : Found) (fs gs : Founds)
+    → at ≡ all_behind c vs → f ≡ found at v → fs ≡ founds_of (found_all c vs) → gs ≡ with_found fs f
+    → gs ≡ founds_of (found_all c (vs ++ v ∷ []))
+founds_step c vs v at f fs gs e h k l =
+    l ∙ ap (λ (x : Founds). with_found x f) k
+    ∙ ap (with_found (founds_of (found_all c vs))) (h ∙ ap (λ (a : Context). found a v) e)
+    ∙ sym (founds_more c vs v)

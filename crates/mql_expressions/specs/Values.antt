@@ -123,6 +123,11 @@ found_all c (v ∷ vs) =
 abbrev pub founds_of : List Found → Founds
 founds_of fs = record { infos = infos_in fs; broken = broken_in fs; used = used_in fs }
 
+-- what is found in expressions, and in one behind them
+abbrev pub with_found : Founds → Found → Founds
+with_found fs f =
+    record { infos = fs.infos ++ f.info ∷ []; broken = fs.broken ++ f.broken; used = fs.used ++ f.used }
+
 -- the parts of a node that tell something: all, but not a name that is called
 abbrev pub told_parts : Bool → List Value → List Value
 told_parts true (v ∷ vs) = vs

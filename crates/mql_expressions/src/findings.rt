@@ -1,7 +1,7 @@
 //! What is found in an expression.
 ghost use Rattle.std.specs.Option.{option_copied};
-ghost use Rattle.std.specs.Prelude.{◌≡◌, ◌++◌, IfOk};
-ghost use Rattle.mql_expressions.specs.Values.{below, innermost, broken_at, kept_by};
+ghost use Rattle.std.specs.Prelude.{◌≡◌, [], ◌++◌, IfOk};
+ghost use Rattle.mql_expressions.specs.Values.{below, innermost, broken_at, kept_by, founds_of, with_found};
 ghost use Rattle.mql_expressions.specs.Made.{number_in};
 
 use fx8::{ItemList, OutOfMemory};
@@ -29,6 +29,41 @@ pub struct Founds {
     pub infos: ItemList<Option<Info>>,
     pub broken: ItemList<Broken>,
     pub used: ItemList<u32>,
+}
+
+/// What is found in no expressions.
+pub(crate) fn nothing_found(alloc: Global) -> Founds
+    ensures { result ≡ founds_of [] }
+{
+    Founds {
+        infos: ItemList::new(alloc),
+        broken: ItemList::new(alloc),
+        used: ItemList::new(alloc),
+    }
+}
+
+/// What is found in expressions, and in one behind them.
+pub(crate) fn with_found(all: Founds, f: Found) -> Result<Founds, OutOfMemory>
+    ensures { IfOk result (λ r. r ≡ with_found all f) }
+{
+    let Founds {
+        mut infos,
+        mut broken,
+        mut used,
+    } = all;
+    let Found {
+        info,
+        broken: below,
+        used: calls,
+    } = f;
+    infos.push(info)?;
+    broken.append(below)?;
+    used.append(calls)?;
+    Ok(Founds {
+        infos,
+        broken,
+        used,
+    })
 }
 
 fn below(alloc: Global, at: u32, all: &[Broken]) -> Result<ItemList<Broken>, OutOfMemory>

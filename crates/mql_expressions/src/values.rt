@@ -7,12 +7,14 @@ ghost use Rattle.mql_expressions.specs.Rules.{callee_of, lowest};
 ghost use Rattle.mql_expressions.specs.Made.{chosen_at, number_in, uses};
 ghost use Rattle.mql_expressions.specs.Values.{name_at, name_of, name_of_first, called_in, told_parts, behind_info, found_at, found, found_all, founds_of};
 
-use crate::findings::{Found, Founds, innermost, kept_by, with_rule, with_used};
+use crate::findings::{
+    Found, Founds, innermost, kept_by, nothing_found, with_found, with_rule, with_used,
+};
 use crate::handed::{callee_at, chosen_for, handed_at};
 use crate::lowest::lowest;
 use crate::made::tells;
 use crate::node::{Call, NodeView, Site};
-use fx8::{ItemList, OutOfMemory};
+use fx8::OutOfMemory;
 use mql_scope::{Here, ProgramFacts};
 use mql_syntax::{Operation, Value};
 use mql_typed::Info;
@@ -135,19 +137,25 @@ pub fn found_in<P: ProgramFacts>(
             types,
             parts,
         } => {
-            let called = called_in(what, parts.as_slice());
+            let written = types.as_slice();
+            let inside = parts.as_slice();
+            let called = called_in(what, inside);
             let s = Site {
                 place: *place,
                 what,
-                types: types.as_slice(),
+                types: written,
                 called,
             };
-            if called.is_some() {
-                let inner = found_behind(alloc, here, parts.as_slice())?;
-                return found_at(alloc, here, &s, inner);
+            match called {
+                None => {
+                    let inner = found_all(alloc, here, inside)?;
+                    found_at(alloc, here, &s, inner)
+                }
+                Some(_) => {
+                    let inner = found_behind(alloc, here, inside)?;
+                    found_at(alloc, here, &s, inner)
+                }
             }
-            let inner = found_all(alloc, here, parts.as_slice())?;
-            found_at(alloc, here, &s, inner)
         }
     }
 }
@@ -163,7 +171,7 @@ fn found_behind<P: ProgramFacts>(
         founds_of (found_all (context_at P.program here.now) (told_parts true values.now))) }
 {
     match values {
-        [] => found_all(alloc, here, values),
+        [] => Ok(nothing_found(alloc)),
         [_, others @ ..] => found_all(alloc, here, others),
     }
 }
@@ -178,24 +186,11 @@ pub fn found_all<P: ProgramFacts>(
     ensures { IfOk result (λ r. r ≡ founds_of (found_all (context_at P.program here.now) values.now)) }
 {
     let mut at = *here;
-    let mut infos = ItemList::new(alloc);
-    let mut broken = ItemList::new(alloc);
-    let mut used = ItemList::new(alloc);
+    let mut all = nothing_found(alloc);
     for v in values {
         let f = found_in(alloc, &at, v)?;
         at = behind(&at, &f.info)?;
-        let Found {
-            info,
-            broken: below,
-            used: calls,
-        } = f;
-        infos.push(info)?;
-        broken.append(below)?;
-        used.append(calls)?;
+        all = with_found(all, f)?;
     }
-    Ok(Founds {
-        infos,
-        broken,
-        used,
-    })
+    Ok(all)
 }
