@@ -148,12 +148,12 @@ pub fn found_in<P: ProgramFacts>(
             };
             match called {
                 None => {
-                    let inner = found_all(alloc, here, inside)?;
-                    found_at(alloc, here, &s, inner)
+                    let all = found_all(alloc, here, inside)?;
+                    found_at(alloc, here, &s, all)
                 }
                 Some(_) => {
-                    let inner = found_behind(alloc, here, inside)?;
-                    found_at(alloc, here, &s, inner)
+                    let others = found_behind(alloc, here, inside)?;
+                    found_at(alloc, here, &s, others)
                 }
             }
         }

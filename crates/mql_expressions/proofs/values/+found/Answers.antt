@@ -25,8 +25,8 @@ found_in-returns-in-None g t c =
     let e4 : c.as_slice-inside.result.now ≡ value_parts v = grind (arith, common_steps) in
     let named = option_map (λ y. y.now) c.called_in-called.result in
     whole x v (value_place v) (value_what v) c.as_slice-written.result.now c.as_slice-inside.result.now
-    named false c.in_ok-inner.inner c.found_at.result refl refl e3 e4 c.called_in-called.ensures
-    (grind (arith, common_steps)) c.in_ok-inner.ensures c.found_at.ensures
+    named false c.in_ok-all.all c.found_at.result refl refl e3 e4 c.called_in-called.ensures
+    (grind (arith, common_steps)) c.in_ok-all.ensures c.found_at.ensures
 
 pub found_in-returns-in-Some : goal.found_in-returns-in-Some
 found_in-returns-in-Some g t c =
@@ -36,5 +36,5 @@ found_in-returns-in-Some g t c =
     let e4 : c.as_slice-inside.result.now ≡ value_parts v = grind (arith, common_steps) in
     let named = option_map (λ y. y.now) c.called_in-called.result in
     whole x v (value_place v) (value_what v) c.as_slice-written.result.now c.as_slice-inside.result.now
-    named true c.in_ok-inner.inner c.found_at.result refl refl e3 e4 c.called_in-called.ensures
-    (grind (arith, common_steps)) c.in_ok-inner.ensures c.found_at.ensures
+    named true c.in_ok-others.others c.found_at.result refl refl e3 e4 c.called_in-called.ensures
+    (grind (arith, common_steps)) c.in_ok-others.ensures c.found_at.ensures
