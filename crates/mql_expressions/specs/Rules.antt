@@ -1,5 +1,6 @@
--- The rules of expressions, one named test each, in the order of their numbers (MQL5 Reference, Language Basics,
--- Operations and Expressions; Functions). A rule that asks about a part that tells nothing is not broken.
+-- The rules of expressions, one named test each, in the order of their numbers (MQL5 Reference, Language
+-- Basics, Operations and Expressions; Functions). A rule that asks about a part that tells nothing is not
+-- broken.
 use Rattle.std.specs.Prelude.{ℕ, ◌+◌, Bool, true, false, not, ◌&&◌, ◌||◌, List, [], ◌∷◌, ◌++◌, Option, Some, None, is_none, is_some, option_map, bytes_eq, slice_get, if◌then◌else◌}
 use Rattle.fx8.specs.declared.int_operator.IntOperator.{IntOperator}
 use Rattle.fx8.specs.declared.int_operator.IntOperator.TheVariants as op
@@ -101,7 +102,8 @@ handed_to fs _ _ = None
 
 unfoldable pub handed_at : Context → Node → Option Handed
 handed_at c n =
-    if passes is_functions (callee_of c n) then handed_to c.program.functions n.called (arguments_of n) else None
+    if passes is_functions (callee_of c n) then handed_to c.program.functions n.called (arguments_of n)
+    else None
 
 -- the chosen function has a parameter at which an argument breaks a rule
 abbrev pub chosen_for : List Signature → Handed → Option Signature
@@ -139,8 +141,8 @@ abbrev pub cast_base : Context → List TypeUse → Option Base
 cast_base c [] = None
 cast_base c (t ∷ ts) = written c.program t
 
--- the field of a name that values of a type have, the last one: what a structure declares itself stands behind
--- what it has of its parent, and hides it
+-- the field of a name that values of a type have, the last one: what a structure declares itself stands
+-- behind what it has of its parent, and hides it
 abbrev pub field_in : List Field → Text → ℕ → Option (ℕ × Field)
 field_in [] x n = None
 field_in (f ∷ fs) x n = either (field_in fs x (n + 1)) (if bytes_eq f.name x then Some (n, f) else None)
@@ -334,8 +336,8 @@ no_integer a = is_no_number a || is_double a
 abbrev pub index_no_integer : Rule
 index_no_integer c n = is_index n.what && ask_base 1 no_integer n
 
--- 26 a whole array is used as a value: no part may be one but what is indexed, what stands in parentheses, whose
--- member is asked for, and arguments, of which the chosen function decides
+-- 26 a whole array is used as a value: no part may be one but what is indexed, what stands in parentheses,
+-- whose member is asked for, and arguments, of which the chosen function decides
 abbrev pub takes_arrays : Operation → Bool
 takes_arrays operation.Parentheses = true
 takes_arrays operation.Call = true

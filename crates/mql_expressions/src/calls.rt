@@ -1,4 +1,5 @@
-//! The rules of calls and conversions. Each is given what the node calls, and the call of functions that it is.
+//! The rules of calls and conversions. Each is given what the node calls, and the call of functions that
+//! it is.
 ghost use Rattle.std.specs.Prelude.{◌≡◌, ◌||◌, ◌&&◌, not, option_map, is_some, is_none, IfOk};
 ghost use Rattle.mql_types.specs.declared.types.Base.{Base};
 ghost use Rattle.mql_typed.specs.Operations.{on};
