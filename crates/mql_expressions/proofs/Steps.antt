@@ -36,3 +36,7 @@ pub last_hit : {A : Type 0} (a : Option A) (b : Bool) (x : A) (hit : Option A)
 last_hit (Some y) b x hit = refl
 last_hit None true x hit = refl
 last_hit None false x hit = refl
+
+pub no_hit : {A : Type 0} (a : Option A) → either a None ≡ a
+no_hit (Some x) = refl
+no_hit None = refl

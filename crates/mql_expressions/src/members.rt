@@ -18,7 +18,7 @@ use mql_types::Base;
 use std::alloc::Global;
 
 /// The field of a name, the last one, with its number from 0 on.
-#[tactic(auto, using(crate::proofs::Steps::last_hit))]
+#[tactic(auto, using(crate::proofs::Steps::last_hit, crate::proofs::Steps::no_hit))]
 fn field_in<'a>(fields: &'a [Field], name: &[u16]) -> Option<(usize, &'a Field)>
     ensures { option_map (λ f. (f.0, f.1.now)) result ≡ field_in fields.now name.now 0 }
 {
