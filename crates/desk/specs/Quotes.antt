@@ -2,19 +2,20 @@
 use Rattle.std.specs.Prelude.{◌≡◌, ◌<◌, true, false, length, Result, Ok, Err, ◌≤ℤ◌}
 use Rattle.market_types.specs.declared.quote.Quote.{Quote}
 use Rattle.market_types.specs.Ordered.{IsMoment, IsPrice}
+use Rattle.market_data.specs.Quotes.{IsAsk}
 use Rattle.desk.specs.declared.fault.DeskFault.{DeskFault}
 use Rattle.desk.specs.declared.fault.DeskFault.TheVariants as desk_fault
 use Rattle.desk.specs.Effect.{Run, last_time, with_quote, effect, closing}
 use Rattle.desk.specs.State.{Quoted, DeskState}
 
 -- a loud quote that may come: of a symbol of the list, at a moment that is not before the last quote's, at
--- prices that a row of a price file may have
+-- prices that a quote of a price file may have
 pub record MayQuote (q : Quoted) (quote : Quote) : Type 0 where
   pub symbol : quote.symbol < length q.spec.specs
   pub moment : IsMoment quote.time_ms
   pub later : last_time q.times ≤ℤ quote.time_ms
   pub bid : IsPrice quote.bid
-  pub ask : IsPrice quote.ask
+  pub ask : IsAsk quote.ask
 
 -- a desk whose prices and times are those given, and whose journal is that of a run
 abbrev pub left_by : Quoted → Run → DeskState → DeskState

@@ -3,6 +3,7 @@
 use Rattle.std.specs.Prelude.{Bool, ◌≡◌, ℕ, ◌+◌, ◌*◌, ◌/◌, ◌^◌, ◌<◌, ◌≤◌, ◌++◌, false, true, List, [], ◌∷◌, length, take, slice_get, is_some, All, FitsSigned, Option, Some, None, IfSome, ⊤, ℤ, pos, ◌+ℤ◌, ◌≤ℤ◌, ◌<ℤ◌, unsigned_abs}
 use Rattle.std.specs.Int.{w64}
 use Rattle.market_types.specs.Ordered.{IsMoment, IsPrice}
+use Rattle.market_data.specs.Quotes.{IsAsk}
 use Rattle.account.specs.declared.account_spec.AccountSpec.{AccountSpec}
 use Rattle.account.specs.declared.deal.Deal.{Deal}
 use Rattle.account.specs.declared.order.Order.{Order}
@@ -153,9 +154,9 @@ pub record MayFill (spec : AccountSpec) (prices : PriceList) (f : Fill) (o : Opt
   pub price : FitsSigned w64 f.price
   pub same : IfSome o (λ p. p.symbol ≡ f.symbol)
 
--- Bid and Ask are prices that a row of a price file may have
+-- Bid and Ask are prices that a quote of a price file may have
 abbrev pub ArePrices : ℤ × ℤ → Type 0
-ArePrices pair = IsPrice pair.0 × IsPrice pair.1
+ArePrices pair = IsPrice pair.0 × IsAsk pair.1
 
 -- each symbol has its place in the list of prices and in that of times, which are moments
 pub record AreQuoted (spec : AccountSpec) (prices : PriceList) (times : List (Option ℤ)) : Type 0 where

@@ -1,6 +1,7 @@
 //! The acts of a script.
 ghost use Rattle.std.specs.Prelude.{◌≡◌, false, length, OnOk, IfOk};
 ghost use Rattle.market_types.specs.Ordered.{IsMoment, IsPrice};
+ghost use Rattle.market_data.specs.Quotes.{IsAsk};
 ghost use Rattle.desk.specs.Quotes.{MayQuote};
 
 use crate::state::{tell_state, tell_stats};
@@ -14,11 +15,19 @@ use market_types::Quote;
 use positions::PositionRule;
 use std::alloc::Global;
 
-/// Takes a price that a row of a price file may have.
-fn price(words: &mut Words<'_>) -> Result<Fix8, Stop>
+/// Takes a Bid that a quote of a price file may have.
+fn bid_price(words: &mut Words<'_>) -> Result<Fix8, Stop>
     ensures { IfOk result IsPrice }
 {
     let units = words.number(1, 1_000_000_000_000_000)?;
+    Ok(Fix8::of_units(units))
+}
+
+/// Takes an Ask that a quote of a price file may have: it may lie 1,000,000 points above the greatest price.
+fn ask_price(words: &mut Words<'_>) -> Result<Fix8, Stop>
+    ensures { IfOk result IsAsk }
+{
+    let units = words.number(1, 1_100_000_000_000_000)?;
     Ok(Fix8::of_units(units))
 }
 
@@ -87,8 +96,8 @@ fn quote<P: PositionRule + Drop>(
     ensures spec { OnOk result (desk.new.quoted.spec ≡ desk.old.quoted.spec) }
 {
     let time_ms = moment(words)?;
-    let bid = price(words)?;
-    let ask = price(words)?;
+    let bid = bid_price(words)?;
+    let ask = ask_price(words)?;
     if time_ms < desk.last_time() {
         return Err(Stop::BadLine);
     }

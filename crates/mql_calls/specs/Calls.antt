@@ -1,6 +1,7 @@
 -- Calls of the program's functions (MQL5 Reference, Functions; Function Overloading; Passing Parameters).
 use Rattle.std.specs.Prelude.{ℕ, ◌+◌, Bool, true, false, not, ◌&&◌, ◌||◌, ◌==◌, List, [], ◌∷◌, ◌++◌, Option, Some, None, is_some, if◌then◌else◌}
 use Rattle.mql_mean.specs.declared.value.Value.{Value}
+use Rattle.mql_meaning.specs.declared.types.VarType.{VarType}
 use Rattle.mql_meaning.specs.declared.tree.Expression.{Expression}
 use Rattle.mql_meaning.specs.declared.tree.Expression.TheVariants as expression
 use Rattle.mql_meaning.specs.declared.tree.Callee.TheVariants as callee
@@ -16,6 +17,8 @@ use Rattle.mql_typed.specs.declared.info.Info.{Info}
 use Rattle.mql_scope.specs.Contexts.{Text, Program, Context}
 use Rattle.mql_typed.specs.Typed.{converted, a_value, nothing}
 use Rattle.mql_calls.specs.Nodes.{Node, all_kept}
+use Rattle.mql_calls.specs.declared.calls.ArgumentRule.{ArgumentRule}
+use Rattle.mql_calls.specs.declared.calls.ArgumentRule.TheVariants as argument
 
 abbrev pub function_at : ℕ → List Signature → Option Signature
 function_at n [] = None
@@ -56,6 +59,13 @@ lends_constant a p = p.reference && (a.place && (a.fixed && not p.constant))
 abbrev pub whole_array : Argument → Parameter → Bool
 whole_array a p = not p.reference && is_array a.of.dimensions
 
+-- what a rule says of an argument with its parameter
+abbrev pub breaks : ArgumentRule → Argument → Parameter → Bool
+breaks argument.NotPlaced = not_placed
+breaks argument.Differs = differs
+breaks argument.LendsConstant = lends_constant
+breaks argument.WholeArray = whole_array
+
 -- the arguments that are handed over: places to references, values in the parameters' types, and defaults
 abbrev pub defaulted : Option Value → List Expression
 defaulted None = []
@@ -74,9 +84,9 @@ call_expression p f is =
     expression.Call (callee.Direct f.number) (is_some f.result)
     (handed_over (p.default f.number) 0 f.parameters is)
 
-abbrev pub given_in : Option Base → List Info → Expression → Info
-given_in None is e = nothing (all_kept is) e
-given_in (Some b) is e = a_value b (all_kept is) e
+abbrev pub given_in : Option Base → List VarType → Expression → Info
+given_in None kept e = nothing kept e
+given_in (Some b) kept e = a_value b kept e
 
 abbrev pub call_info : Program → Signature → List Info → Info
-call_info p f is = given_in f.result is (call_expression p f is)
+call_info p f is = given_in f.result (all_kept is) (call_expression p f is)

@@ -20,6 +20,7 @@ use Rattle.natives.specs.declared.native.Native.TheVariants as natives
 use Rattle.natives.specs.Signatures.{signature, is_rest, may_lack}
 use Rattle.mql_mean.specs.declared.value.Value.{Value}
 use Rattle.mql_mean.specs.declared.value.Value.TheVariants as value
+use Rattle.mql_meaning.specs.declared.types.VarType.{VarType}
 use Rattle.mql_meaning.specs.declared.tree.Expression.{Expression}
 use Rattle.mql_meaning.specs.declared.tree.Expression.TheVariants as expression
 use Rattle.mql_meaning.specs.declared.tree.Member.{Member}
@@ -67,8 +68,11 @@ takes_as passing.Value b i = has_value (λ a. fits a b) i
 takes_as passing.Reference b i = is_place_of (single b) i
 
 -- elements that an array may have, beside the array before it
+abbrev pub are_numbers : Base → Base → Bool
+are_numbers a b = is_number a && is_number b
+
 abbrev pub match : Base → Base → Bool
-match a b = same a b || (is_number a && is_number b)
+match a b = same a b || are_numbers a b
 
 abbrev pub elements_fit : Elements → Option Base → Base → Bool
 elements_fit elements.Any before b = true
@@ -108,11 +112,15 @@ abbrev pub all_texts : List Info → Bool
 all_texts [] = true
 all_texts (i ∷ is) = has_value is_text i && all_texts is
 
+-- parameters that are left over may be left out
+abbrev pub all_may_lack : List Parameter → Bool
+all_may_lack [] = true
+all_may_lack (q ∷ qs) = may_lack q && all_may_lack qs
+
 -- the parameters take the arguments
 abbrev pub takes_native : List Parameter → Option Base → List Info → Bool
-takes_native [] before [] = true
+takes_native qs before [] = all_may_lack qs
 takes_native [] before (i ∷ is) = false
-takes_native (q ∷ qs) before [] = may_lack q && takes_native qs before []
 takes_native (q ∷ qs) before (i ∷ is) =
     if is_rest q.kind then all_texts (i ∷ is)
     else kind_takes q.kind q.passing before i && takes_native qs (element i) is
@@ -126,8 +134,11 @@ abbrev pub changes : Passing → Bool
 changes passing.Reference = true
 changes passing.Value = false
 
+abbrev pub is_lent_fixed : Parameter → Info → Bool
+is_lent_fixed q i = changes q.passing && is_fixed i.standing
+
 abbrev pub lends_fixed : List Parameter → List Info → Bool
-lends_fixed (q ∷ qs) (i ∷ is) = (changes q.passing && is_fixed i.standing) || lends_fixed qs is
+lends_fixed (q ∷ qs) (i ∷ is) = is_lent_fixed q i || lends_fixed qs is
 lends_fixed _ _ = false
 
 abbrev pub lends_native : Native → List Info → Bool
@@ -141,8 +152,11 @@ sets_series _ = false
 abbrev pub is_line : Info → Bool
 is_line i = passes (λ (t : DataType). is_dynamic t.dimensions) i.of
 
+abbrev pub is_other_array : Info → Bool
+is_other_array i = is_some (element i) && not (is_line i)
+
 abbrev pub flags_no_line : Native → List Info → Bool
-flags_no_line f (i ∷ is) = sets_series f && (is_some (element i) && not (is_line i))
+flags_no_line f (i ∷ is) = sets_series f && is_other_array i
 flags_no_line f [] = false
 
 -- the common type of numbers
@@ -182,11 +196,14 @@ abbrev pub enumeration_of : Program → Option Base → Option Enumeration
 enumeration_of p (Some (base.Enumeration n)) = slice_get p.enumerations n
 enumeration_of p _ = None
 
+abbrev pub plain_name : Info → Expression
+plain_name i = expression.Native natives.EnumToString (value_of i ∷ [])
+
 abbrev pub named_value : Program → List Info → Expression
 named_value p [] = expression.Native natives.EnumToString []
 named_value p (i ∷ is) =
     elim (enumeration_of p (value_base i)) [
-      | None ↦ expression.Native natives.EnumToString (value_of i ∷ [])
+      | None ↦ plain_name i
       | Some e ↦ name_of_value i e
     ]
 
@@ -233,15 +250,20 @@ native_parts (q ∷ qs) numbers before (i ∷ is) =
     else given q.kind q.passing numbers before i ∷ native_parts qs numbers (element i) is
 
 -- what is told of the call
-abbrev pub native_expression : Program → Native → List Info → Expression
-native_expression p natives.EnumToString is = named_value p is
-native_expression p f is = expression.Native f (native_parts (signature f).parameters (common is) None is)
+abbrev pub names_value : Native → Bool
+names_value natives.EnumToString = true
+names_value _ = false
 
-abbrev pub native_given : ResultType → List Info → Expression → Info
-native_given results.Void is e = nothing (all_kept is) e
-native_given (results.Simple t) is e = a_value (base.Simple t) (all_kept is) e
-native_given results.Common is e = a_value (common is) (all_kept is) e
-native_given results.Pointer is e = a_value base.Null (all_kept is) e
+abbrev pub native_expression : Program → Native → List Info → Expression
+native_expression p f is =
+    if names_value f then named_value p is
+    else expression.Native f (native_parts (signature f).parameters (common is) None is)
+
+abbrev pub native_given : ResultType → Base → List VarType → Expression → Info
+native_given results.Void numbers kept e = nothing kept e
+native_given (results.Simple t) numbers kept e = a_value (base.Simple t) kept e
+native_given results.Common numbers kept e = a_value numbers kept e
+native_given results.Pointer numbers kept e = a_value base.Null kept e
 
 abbrev pub native_info : Program → Native → List Info → Info
-native_info p f is = native_given (signature f).result is (native_expression p f is)
+native_info p f is = native_given (signature f).result (common is) (all_kept is) (native_expression p f is)
