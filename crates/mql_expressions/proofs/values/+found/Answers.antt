@@ -17,24 +17,24 @@ found_all-loop-v-preserved g t c =
       found = founds_step x vs c.v-item.result at c.in_ok-f.f c.loop-v.all c.in_ok-all.all c.loop-v.invariant.context c.in_ok-f.ensures c.loop-v.invariant.found c.in_ok-all.ensures;
     })
 
-pub found_in-returns-in-None : goal.found_in-returns-in-None
-found_in-returns-in-None g t c =
+pub found_in-returns-in_ok-all-in-None : goal.found_in-returns-in_ok-all-in-None
+found_in-returns-in_ok-all-in-None g t c =
     let x = context_at g.P.ProgramFacts.program c.args.here.now in
     let v = c.args.v.now in
     let e3 : c.as_slice-written.result.now ≡ value_types v = grind (arith, common_steps) in
     let e4 : c.as_slice-inside.result.now ≡ value_parts v = grind (arith, common_steps) in
     let named = option_map (λ y. y.now) c.called_in-called.result in
     whole x v (value_place v) (value_what v) c.as_slice-written.result.now c.as_slice-inside.result.now
-    named false c.in_ok-all.all c.found_at.result refl refl e3 e4 c.called_in-called.ensures
-    (grind (arith, common_steps)) c.in_ok-all.ensures c.found_at.ensures
+    named false c.in_ok-all-in-None.all c.found_at-in-None.result refl refl e3 e4 c.called_in-called.ensures
+    (grind (arith, common_steps)) c.in_ok-all-in-None.ensures c.found_at-in-None.ensures
 
-pub found_in-returns-in-Some : goal.found_in-returns-in-Some
-found_in-returns-in-Some g t c =
+pub found_in-returns-in_ok-others-in-Some : goal.found_in-returns-in_ok-others-in-Some
+found_in-returns-in_ok-others-in-Some g t c =
     let x = context_at g.P.ProgramFacts.program c.args.here.now in
     let v = c.args.v.now in
     let e3 : c.as_slice-written.result.now ≡ value_types v = grind (arith, common_steps) in
     let e4 : c.as_slice-inside.result.now ≡ value_parts v = grind (arith, common_steps) in
     let named = option_map (λ y. y.now) c.called_in-called.result in
     whole x v (value_place v) (value_what v) c.as_slice-written.result.now c.as_slice-inside.result.now
-    named true c.in_ok-others.others c.found_at.result refl refl e3 e4 c.called_in-called.ensures
-    (grind (arith, common_steps)) c.in_ok-others.ensures c.found_at.ensures
+    named true c.in_ok-others-in-Some.others c.found_at-in-Some.result refl refl e3 e4 c.called_in-called.ensures
+    (grind (arith, common_steps)) c.in_ok-others-in-Some.ensures c.found_at-in-Some.ensures
