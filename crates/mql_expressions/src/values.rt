@@ -171,7 +171,7 @@ fn found_behind<P: ProgramFacts>(
         founds_of (found_all (context_at P.program here.now) (told_parts true values.now))) }
 {
     match values {
-        [] => Ok(nothing_found(alloc)),
+        [] => found_all(alloc, here, values),
         [_, others @ ..] => found_all(alloc, here, others),
     }
 }

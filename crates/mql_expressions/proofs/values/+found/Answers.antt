@@ -24,9 +24,9 @@ found_in-returns-in_ok-all-in-None g t c =
     let e3 : c.as_slice-written.result.now ≡ value_types v = grind (arith, common_steps) in
     let e4 : c.as_slice-inside.result.now ≡ value_parts v = grind (arith, common_steps) in
     let named = option_map (λ y. y.now) c.called_in-called.result in
-    whole x v (value_place v) (value_what v) c.as_slice-written.result.now c.as_slice-inside.result.now
-    named false c.in_ok-all-in-None.all c.found_at-in-None.result refl refl e3 e4 c.called_in-called.ensures
-    (grind (arith, common_steps)) c.in_ok-all-in-None.ensures c.found_at-in-None.ensures
+    whole x v _ _ c.as_slice-written.result.now c.as_slice-inside.result.now
+    named false c.in_ok-all-in-None.all c.found_at.result (grind (arith, common_steps)) (grind (arith, common_steps)) e3 e4 c.called_in-called.ensures
+    (grind (arith, common_steps)) c.in_ok-all-in-None.ensures c.found_at.ensures
 
 pub found_in-returns-in_ok-others-in-Some : goal.found_in-returns-in_ok-others-in-Some
 found_in-returns-in_ok-others-in-Some g t c =
@@ -35,6 +35,6 @@ found_in-returns-in_ok-others-in-Some g t c =
     let e3 : c.as_slice-written.result.now ≡ value_types v = grind (arith, common_steps) in
     let e4 : c.as_slice-inside.result.now ≡ value_parts v = grind (arith, common_steps) in
     let named = option_map (λ y. y.now) c.called_in-called.result in
-    whole x v (value_place v) (value_what v) c.as_slice-written.result.now c.as_slice-inside.result.now
-    named true c.in_ok-others-in-Some.others c.found_at-in-Some.result refl refl e3 e4 c.called_in-called.ensures
+    whole x v _ _ c.as_slice-written.result.now c.as_slice-inside.result.now
+    named true c.in_ok-others-in-Some.others c.found_at-in-Some.result (grind (arith, common_steps)) (grind (arith, common_steps)) e3 e4 c.called_in-called.ensures
     (grind (arith, common_steps)) c.in_ok-others-in-Some.ensures c.found_at-in-Some.ensures
