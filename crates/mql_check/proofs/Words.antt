@@ -35,7 +35,8 @@ use Rattle.mql_typed.specs.declared.info.Info.{Info}
 use Rattle.mql_typed.specs.declared.info.Standing.{Standing}
 use Rattle.mql_typed.specs.declared.info.Standing.TheVariants as stand
 use Rattle.mql_scope.specs.Contexts.{Text, Program, Context}
-use Rattle.mql_expressions.specs.Values.{Found, found}
+use Rattle.mql_expressions.specs.declared.findings.Found.{Found}
+use Rattle.mql_expressions.specs.Values.{found}
 use Rattle.mql_statements.specs.declared.told.Told.{Told}
 use Rattle.mql_statements.specs.Statements.{told}
 use Rattle.mql_expressions.specs.Rules as Rules

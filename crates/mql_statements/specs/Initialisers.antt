@@ -29,7 +29,8 @@ use Rattle.mql_typed.specs.Operations.{element_type}
 use Rattle.mql_typed.specs.Typed.{on_one, on_two, int, value_base, converted}
 use Rattle.mql_calls.specs.Nodes.{passes, is_void, is_whole_array}
 use Rattle.mql_expressions.specs.Rules.{no_fit, fields_at}
-use Rattle.mql_expressions.specs.Values.{Found, found, innermost, broken_at, broken_in, used_in, kept_by}
+use Rattle.mql_expressions.specs.declared.findings.Found.{Found}
+use Rattle.mql_expressions.specs.Values.{found, innermost, broken_at, broken_in, used_in, kept_by}
 
 -- what a variable begins with: what is done, one expression after another, the locals that this takes, the
 -- rules that may be told, and the numbers of the functions that are called

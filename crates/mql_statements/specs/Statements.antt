@@ -44,7 +44,8 @@ use Rattle.mql_typed.specs.Typed.{value_base, value_of, into_sort, converted, co
 use Rattle.mql_scope.specs.Names.{stands_at}
 use Rattle.mql_calls.specs.Nodes.{passes, nth, is_void, is_whole_array, some_part}
 use Rattle.mql_expressions.specs.Rules.{no_fit, no_integer, no_condition}
-use Rattle.mql_expressions.specs.Values.{Found, found, innermost, broken_at, found_all, infos_in, broken_in, used_in, kept_by}
+use Rattle.mql_expressions.specs.declared.findings.Found.{Found}
+use Rattle.mql_expressions.specs.Values.{found, innermost, broken_at, found_all, infos_in, broken_in, used_in, kept_by}
 use Rattle.mql_statements.specs.declared.told.LabelValue.{LabelValue}
 use Rattle.mql_statements.specs.declared.told.LabelValue.TheVariants.{Default, NoConstant, Number}
 use Rattle.mql_statements.specs.declared.told.Label.{Label}
