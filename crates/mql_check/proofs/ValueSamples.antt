@@ -15,7 +15,6 @@ use Rattle.mql_syntax.specs.declared.value.Value.{Value}
 use Rattle.mql_types.specs.declared.types.Base.TheVariants as base
 use Rattle.mql_typed.specs.Typed.{a_value, nothing}
 use Rattle.mql_expressions.specs.declared.findings.Found.{Found}
-use Rattle.mql_expressions.specs.Values.{}
 use Rattle.mql_check.proofs.Words.{name, number, real, truth, node, of, single, line, parameter, function, read, finds, breaks}
 
 -- i / i is of int
