@@ -12,7 +12,7 @@ use Rattle.mql_types.specs.declared.overloads.Argument.{Argument}
 use Rattle.mql_types.specs.Types.{is_array}
 use Rattle.mql_typed.specs.declared.info.Info.{Info}
 use Rattle.mql_scope.specs.Contexts.{Text, Context}
-use Rattle.mql_typed.specs.Typed.{value_base, is_lasting, is_fixed, is_input}
+use Rattle.mql_typed.specs.Typed.{is_lasting, is_fixed, is_input}
 
 -- a node: where it stands, what it does, its types, the name that it calls, and what its parts tell; a name
 -- that is called is no part
@@ -40,12 +40,6 @@ nth (suc n) (i ∷ is) = nth n is
 
 abbrev pub ask : ℕ → (Info → Bool) → Node → Bool
 ask k test n = passes test (nth k n.parts)
-
-abbrev pub ask_base : ℕ → (Base → Bool) → Node → Bool
-ask_base k test n = ask k (λ i. passes test (value_base i)) n
-
-abbrev pub ask_bases : (Base → Base → Bool) → Node → Bool
-ask_bases test n = ask_base 0 (λ a. ask_base 1 (test a) n) n
 
 -- some part passes a test
 abbrev pub some_part : (Info → Bool) → List (Option Info) → Bool

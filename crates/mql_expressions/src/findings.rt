@@ -81,7 +81,7 @@ fn below(alloc: Global, at: u32, all: &[Broken]) -> Result<ItemList<Broken>, Out
 }
 
 /// Of what is broken at a node and in its parts: what is below it, if there is any.
-pub(crate) fn innermost(
+pub fn innermost(
     alloc: Global,
     place: Place,
     all: ItemList<Broken>,
@@ -96,7 +96,7 @@ pub(crate) fn innermost(
 }
 
 /// What is broken, and a rule that is broken at a place behind it, if there is one.
-pub(crate) fn with_rule(
+pub fn with_rule(
     mut all: ItemList<Broken>,
     place: Place,
     rule: Option<u8>,
@@ -117,7 +117,7 @@ pub(crate) fn with_rule(
 }
 
 /// The locals that an expression takes.
-pub(crate) fn kept_by(info: &Option<Info>) -> &[VarType]
+pub fn kept_by(info: &Option<Info>) -> &[VarType]
     ensures { result.now ≡ kept_by info.now }
 {
     match info {

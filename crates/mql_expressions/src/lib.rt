@@ -12,5 +12,6 @@ mod operands;
 mod tests;
 mod values;
 
-pub use findings::{Found, Founds};
+pub use findings::{Found, Founds, innermost, kept_by, with_rule};
+pub use operands::no_integer;
 pub use values::{found_all, found_in};

@@ -174,7 +174,8 @@ fn no_common_at(n: &NodeView) -> bool
     }
 }
 
-fn no_integer(a: Base) -> bool
+/// Whether values of a type are no integers.
+pub fn no_integer(a: Base) -> bool
     ensures { result ≡ no_integer a }
 {
     is_no_number(a) || is_double(a)

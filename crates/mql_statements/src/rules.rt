@@ -1,8 +1,7 @@
 //! The rules that statements break by themselves.
 ghost use Rattle.std.specs.Prelude.{◌≡◌};
 ghost use Rattle.std.specs.Option.{option_copied};
-ghost use Rattle.mql_calls.specs.Nodes.{nth, is_whole_array};
-ghost use Rattle.mql_expressions.specs.Rules.{no_integer};
+ghost use Rattle.mql_calls.specs.Nodes.{nth};
 ghost use Rattle.mql_scope.specs.Places.{context_at};
 ghost use Rattle.mql_statements.specs.Statements.{first_base, is_tested, is_switch, is_delete, wants_value, return_no_fit, test_no_number, switch_no_integer, value_kind, label_repeated, outside, against_result, void_used, array_used, no_pointer, deletes_no_pointer, lowest};
 
@@ -10,11 +9,12 @@ use crate::closing::is_return;
 use crate::labels::{some_no_constant, some_twice, switch_kind};
 use crate::told::Label;
 use fx8::IntKind;
+use mql_calls::is_whole_array;
+use mql_expressions::no_integer;
 use mql_scope::{Here, ProgramFacts};
 use mql_syntax::StatementKind;
 use mql_typed::{Info, value_base};
 use mql_types::{Base, fits, is_number};
-use natives::SimpleType;
 
 /// What the first value tells.
 pub(crate) fn first(values: &[Option<Info>]) -> Option<&Info>
@@ -100,15 +100,6 @@ fn test_no_number(what: StatementKind, values: &[Option<Info>]) -> bool
     }
 }
 
-fn no_integer(a: Base) -> bool
-    ensures { result ≡ no_integer a }
-{
-    match a {
-        Base::Simple(SimpleType::Double) => true,
-        _ => !is_number(a),
-    }
-}
-
 /// 18: the value of a `switch` is no integer.
 fn switch_no_integer(what: StatementKind, values: &[Option<Info>]) -> bool
     ensures { result ≡ switch_no_integer what values.now }
@@ -170,15 +161,6 @@ fn void_used(what: StatementKind, values: &[Option<Info>]) -> bool
     match first(values) {
         None => false,
         Some(i) => i.of.is_none(),
-    }
-}
-
-fn is_whole_array(i: &Info) -> bool
-    ensures { result ≡ is_whole_array i.now }
-{
-    match i.of {
-        None => false,
-        Some(t) => t.dimensions.is_array(),
     }
 }
 

@@ -92,7 +92,8 @@ pub fn update_info(
     }
 }
 
-fn element_type(t: DataType) -> DataType
+/// The type of what stands at a place of the first dimension.
+pub fn element_type(t: DataType) -> DataType
     ensures { result ≡ element_type t }
 {
     DataType {
