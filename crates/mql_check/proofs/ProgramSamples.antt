@@ -43,7 +43,8 @@ use Rattle.mql_types.specs.Overloads as Overloads
 use Rattle.mql_expressions.specs.Rules as Rules
 use Rattle.mql_expressions.specs.Made as Made
 use Rattle.mql_statements.specs.Statements as Statements
-use Rattle.mql_check.specs.Programs.{Given, program_of, told_broken, breaks_bodies}
+use Rattle.mql_check.specs.Programs.{told_broken, breaks_bodies}
+use Rattle.mql_program.specs.Programs.{Given, program_of}
 use Rattle.mql_check.proofs.Words.{at, name, number, real, truth, node, statement, constant_of}
 
 given : Given
