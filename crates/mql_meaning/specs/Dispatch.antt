@@ -69,10 +69,10 @@ one_value xs = on_one a_value xs
 abbrev pub condition : Operand → Change Bool
 condition x = a_value x >>= holds
 
--- whether two values of one sort are equal
+-- whether a value equals one of a sort
 abbrev pub equals : Value → Value → Change Bool
 equals x y = do
-  t ← the (sort_of x)
+  t ← the (sort_of y)
   b ← binary op.Equal t x y
   holds b
 
