@@ -28,6 +28,8 @@ pub struct Case {
     /// The numbers of the calls of the files, and of the sink, that fail.
     pub fails: Numbers,
     pub refused: Numbers,
+    /// Whether files and sink are those that never fail.
+    pub calm: bool,
     pub wanted: Text8,
     open: Open,
 }
@@ -59,6 +61,7 @@ impl Case {
             files: Vec::new(alloc),
             fails: Numbers::new(alloc),
             refused: Numbers::new(alloc),
+            calm: false,
             wanted: Text8::new(alloc),
             open: Open::Nothing,
         })
@@ -144,8 +147,10 @@ impl Case {
         if let Some(words) = line.strip_prefix("do ") {
             return self.set_words(alloc, words);
         }
-        if line == "want" {
-            self.open = Open::Wanted;
+        match line {
+            "want" => self.open = Open::Wanted,
+            "calm" => self.calm = true,
+            _ => {}
         }
         self.take_failure(line)
     }
