@@ -1,7 +1,7 @@
 -- What is known of a whole program: what its names stand for, its structures, enumerations, global variables and
 -- functions (MQL5 Reference, Language Basics, Functions; Variables, Input Variables; Enumerations; Data Types,
 -- Structures and Classes). So far for programs without classes, interfaces, templates and methods.
-use Rattle.std.specs.Prelude.{ℕ, zero, ◌+◌, ◌+ℤ◌, suc, ℤ, pos, Bool, true, false, ◌&&◌, ◌||◌, List, [], ◌∷◌, ◌++◌, length, map, flat_map, Option, Some, None, option_map, slice_get, bytes_eq, if◌then◌else◌}
+use Rattle.std.specs.Prelude.{ℕ, zero, ◌+◌, ◌+ℤ◌, suc, ℤ, pos, Bool, true, false, ◌&&◌, ◌||◌, List, [], ◌∷◌, ◌++◌, map, flat_map, Option, Some, None, is_some, option_map, slice_get, bytes_eq, if◌then◌else◌}
 use Rattle.fx8.specs.declared.int_kind.IntKind.TheVariants as int_kind
 use Rattle.fx8.specs.Integers.{wrapped}
 use Rattle.natives.specs.declared.types.SimpleType.TheVariants as simple
@@ -31,7 +31,6 @@ use Rattle.mql_syntax.specs.declared.declaration.Parent.{Parent}
 use Rattle.mql_syntax.specs.declared.declaration.Class.{Class}
 use Rattle.mql_syntax.specs.declared.declaration.Item.{Item}
 use Rattle.mql_syntax.specs.declared.declaration.Item.TheVariants as item
-use Rattle.mql_names.specs.Faults.{told}
 use Rattle.mql_names.specs.Meanings.{names_of}
 use Rattle.mql_names.specs.Types.{Names, type_name, param_keys, is_defined}
 use Rattle.mql_types.specs.declared.types.Base.{Base}
@@ -74,28 +73,13 @@ supplied_layouts =
     supplied_layout supplieds.MqlRates supplied.MqlRates ∷
     supplied_layout supplieds.MqlDateTime supplied.MqlDateTime ∷ []
 
--- the names of structures and of enumerations come before their parts
-abbrev pub structure_name : Item → List Text
-structure_name (item.Class c) = if c.defined then c.name ∷ [] else []
-structure_name _ = []
-
-abbrev pub enumeration_name : Item → List Text
-enumeration_name (item.Enumeration e) = e.name ∷ []
-enumeration_name _ = []
-
-abbrev pub named_layout : Text → Layout
-named_layout x = record { name = x; fields = [] }
-
-abbrev pub named_enumeration : Text → Enumeration
-named_enumeration x = record { name = x; members = [] }
-
--- a program with what its types are called, and nothing else yet
-abbrev pub of_types : Given → List Item → Program
-of_types g items =
+-- what is known of the types of a program: what its names mean, its structures and enumerations
+abbrev pub program_of_types : Given → Names → List Layout → List Enumeration → Program
+program_of_types g names structures enumerations =
     record {
-      names = names_of items;
-      structures = supplied_layouts ++ map named_layout (flat_map structure_name items);
-      enumerations = map named_enumeration (flat_map enumeration_name items);
+      names = names;
+      structures = structures;
+      enumerations = enumerations;
       globals = [];
       functions = [];
       default = λ n k. None;
@@ -103,6 +87,26 @@ of_types g items =
       line = g.line;
       file = g.file;
     }
+
+-- the names of structures and of enumerations come before their parts
+abbrev pub named_layout : Text → Layout
+named_layout x = record { name = x; fields = [] }
+
+abbrev pub named_class : Class → List Layout
+named_class c = if c.defined then named_layout c.name ∷ [] else []
+
+abbrev pub named_structure : Item → List Layout
+named_structure (item.Class c) = named_class c
+named_structure _ = []
+
+abbrev pub named_enumeration : Item → List Enumeration
+named_enumeration (item.Enumeration e) = record { name = e.name; members = [] } ∷ []
+named_enumeration _ = []
+
+abbrev pub of_types : Given → Names → List Item → Program
+of_types g names items =
+    program_of_types g names (supplied_layouts ++ flat_map named_structure items)
+    (flat_map named_enumeration items)
 
 -- structures with their fields
 abbrev pub is_public : Access → Bool
@@ -121,14 +125,22 @@ field p (members.Function a f) = []
 abbrev pub own_fields : Program → Class → List Field
 own_fields p c = flat_map (field p) c.members
 
--- the structures that a program defines, and the last one of a name
-abbrev pub classes_in : Item → List Class
-classes_in (item.Class c) = if c.defined then c ∷ [] else []
-classes_in _ = []
+-- the structure that a program defines of a name, the last one; and how many it defines
+abbrev pub class_in : Text → Item → Option Class
+class_in x (item.Class c) = if c.defined && bytes_eq c.name x then Some c else None
+class_in x _ = None
 
-abbrev pub class_named : Text → List Class → Option Class
+abbrev pub class_named : Text → List Item → Option Class
 class_named x [] = None
-class_named x (c ∷ cs) = either (class_named x cs) (if bytes_eq c.name x then Some c else None)
+class_named x (i ∷ is) = either (class_named x is) (class_in x i)
+
+abbrev pub is_structure : Item → Bool
+is_structure (item.Class c) = c.defined
+is_structure _ = false
+
+abbrev pub structure_count : List Item → ℕ
+structure_count [] = 0
+structure_count (i ∷ is) = (if is_structure i then 1 else 0) + structure_count is
 
 -- the fields of a supplied structure of a name
 abbrev pub fields_named : Text → Layout → List Field
@@ -144,40 +156,54 @@ inherited_field a f = record f { accessible = f.accessible && is_taken_publicly 
 
 -- the fields that a structure has of its parent: those of the parent's parent first, then the parent's own.
 -- Chains of parents are no longer than there are structures
-abbrev pub inherited : Program → List Class → ℕ → Option Parent → List Field
-inherited p cs zero q = []
-inherited p cs (suc n) None = []
-inherited p cs (suc n) (Some q) =
-    map (inherited_field q.access) (elim (class_named (type_name q.of) cs) [
+abbrev pub inherited : Program → List Item → ℕ → Option Parent → List Field
+inherited p is zero q = []
+inherited p is (suc n) None = []
+inherited p is (suc n) (Some q) =
+    map (inherited_field q.access) (elim (class_named (type_name q.of) is) [
       | None ↦ flat_map (fields_named (type_name q.of)) supplied_layouts
-      | Some c ↦ inherited p cs n c.parent ++ own_fields p c
+      | Some c ↦ inherited p is n c.parent ++ own_fields p c
     ])
 
-abbrev pub layout_of : Program → List Class → Class → Layout
-layout_of p cs c =
-    record { name = c.name; fields = inherited p cs (length cs) c.parent ++ own_fields p c }
+abbrev pub layout_of : Program → List Item → ℕ → Class → Layout
+layout_of p is n c = record { name = c.name; fields = inherited p is n c.parent ++ own_fields p c }
 
-abbrev pub layouts : Program → List Class → List Layout
-layouts p cs = map (layout_of p cs) cs
+abbrev pub class_layout : Program → List Item → ℕ → Class → List Layout
+class_layout p is n c = if c.defined then layout_of p is n c ∷ [] else []
 
--- enumerations: a member without a value has one more than the one before it, the first has 0
+abbrev pub layout_in : Program → List Item → ℕ → Item → List Layout
+layout_in p is n (item.Class c) = class_layout p is n c
+layout_in p is n _ = []
+
+abbrev pub layouts : Program → List Item → List Layout
+layouts p is = flat_map (layout_in p is (structure_count is)) is
+
+-- enumerations: a member without a value has one more than the one before it, the first has 0; values are of
+-- `int`
+abbrev pub number_or : ℤ → Option Value → ℤ
+number_or next None = next
+number_or next (Some x) = elim (number_of x) [ None ↦ next | Some n ↦ n ]
+
 abbrev pub numbered : Program → Option syntax.Value → ℤ → ℤ
 numbered p None next = next
-numbered p (Some v) next =
-    elim (p.constant [] v) [ None ↦ next | Some x ↦ elim (number_of x) [ None ↦ next | Some n ↦ n ] ]
+numbered p (Some v) next = number_or next (p.constant [] v)
 
 abbrev pub member : Text → ℤ → Member
-member x n = record { name = x; value = wrapped int_kind.Int n }
+member x n = record { name = x; value = n }
 
 abbrev pub members_from : Program → ℤ → List Enumerator → List Member
 members_from p next [] = []
 members_from p next (e ∷ es) =
-    let n = numbered p e.value next in
+    let n = wrapped int_kind.Int (numbered p e.value next) in
     member e.name n ∷ members_from p (n +ℤ pos 1) es
 
 abbrev pub enumeration : Program → Item → List Enumeration
 enumeration p (item.Enumeration e) = record { name = e.name; members = members_from p (pos 0) e.values } ∷ []
 enumeration p _ = []
+
+abbrev pub with_types : Given → Names → List Item → Program → Program
+with_types g names items p =
+    program_of_types g names (supplied_layouts ++ layouts p items) (flat_map (enumeration p) items)
 
 -- global variables in their order
 abbrev pub is_input : Variable → Bool
@@ -218,54 +244,60 @@ abbrev pub announced_in : Item → List Function
 announced_in (item.Function f) = if is_defined f.body then [] else f ∷ []
 announced_in _ = []
 
-abbrev pub has_start : Start → Bool
-has_start start.Zero = false
-has_start _ = true
-
 -- a default stands at the parameter, or where the function is announced
-abbrev pub start_at : ℕ → List Param → Start
-start_at n [] = start.Zero
-start_at zero (q ∷ qs) = q.variable.start
-start_at (suc n) (q ∷ qs) = start_at n qs
+abbrev pub said : Start → Option Start
+said start.Zero = None
+said s = Some s
+
+abbrev pub said_of : Param → Option Start
+said_of q = said q.variable.start
+
+abbrev pub start_at : ℕ → List Param → Option Start
+start_at k qs = elim (slice_get qs k) [ None ↦ None | Some q ↦ said_of q ]
 
 abbrev pub is_one_function : Names → Function → Function → Bool
 is_one_function names f g =
     bytes_eq f.name g.name && bytes_eq (param_keys names f.params) (param_keys names g.params)
 
-abbrev pub announced_start : Names → Function → ℕ → List Function → Start
-announced_start names f k [] = start.Zero
-announced_start names f k (g ∷ gs) =
-    if is_one_function names f g && has_start (start_at k g.params) then start_at k g.params
-    else announced_start names f k gs
+abbrev pub start_where : Names → Function → ℕ → Function → Option Start
+start_where names f k g = if is_one_function names f g then start_at k g.params else None
 
-abbrev pub default_start : Names → List Function → Function → ℕ → Start
-default_start names announced f k =
-    if has_start (start_at k f.params) then start_at k f.params else announced_start names f k announced
+abbrev pub announced_start : Names → Function → ℕ → List Function → Option Start
+announced_start names f k [] = None
+announced_start names f k (g ∷ gs) = either (start_where names f k g) (announced_start names f k gs)
 
-abbrev pub parameter_from : Program → List Function → Function → ℕ → List Param → List Parameter
-parameter_from p announced f k [] = []
-parameter_from p announced f k (q ∷ qs) =
+abbrev pub default_start : Names → List Function → Function → ℕ → Option Start
+default_start names announced f k = either (start_at k f.params) (announced_start names f k announced)
+
+abbrev pub parameter : Program → List Function → Function → ℕ → Param → Parameter
+parameter p announced f k q =
     record {
       of = global_type p q.variable;
       reference = q.reference;
       constant = q.variable.words.is_const;
-      optional = has_start (default_start p.names announced f k);
+      optional = is_some (default_start p.names announced f k);
     }
-    ∷ parameter_from p announced f (k + 1) qs
+
+abbrev pub parameters_from : Program → List Function → Function → ℕ → List Param → List Parameter
+parameters_from p announced f k [] = []
+parameters_from p announced f k (q ∷ qs) =
+    parameter p announced f k q ∷ parameters_from p announced f (k + 1) qs
 
 abbrev pub result_of : Program → Function → Option Base
 result_of p f = elim (f.result) [ None ↦ None | Some t ↦ written p t ]
 
-abbrev pub signatures_from : Program → List Function → ℕ → List Function → List Signature
-signatures_from p announced n [] = []
-signatures_from p announced n (f ∷ fs) =
+abbrev pub signature : Program → List Function → ℕ → Function → Signature
+signature p announced n f =
     record {
       name = f.name;
       number = n;
-      parameters = parameter_from p announced f 0 f.params;
+      parameters = parameters_from p announced f 0 f.params;
       result = result_of p f;
     }
-    ∷ signatures_from p announced (n + 1) fs
+
+abbrev pub signatures_from : Program → List Function → ℕ → List Function → List Signature
+signatures_from p announced n [] = []
+signatures_from p announced n (f ∷ fs) = signature p announced n f ∷ signatures_from p announced (n + 1) fs
 
 -- the constant that a default is
 abbrev pub constant_start : Program → Start → Option Value
@@ -282,17 +314,21 @@ zero_value _ = value.Num int_kind.Int (pos 0)
 abbrev pub as_type_or_zero : Given → Base → Value → Value
 as_type_or_zero g b x = elim (g.as_type b x) [ None ↦ zero_value b | Some y ↦ y ]
 
-abbrev pub default_value : Given → Program → Option Param → Start → Option Value
-default_value g p None s = None
-default_value g p (Some q) s =
+abbrev pub default_value : Given → Program → Param → Option Start → Option Value
+default_value g p q None = None
+default_value g p q (Some s) =
     option_map (as_type_or_zero g (global_type p q.variable).base) (constant_start p s)
+
+abbrev pub default_at : Given → Program → List Function → Function → ℕ → Option Value
+default_at g p announced f k =
+    elim (slice_get f.params k) [
+      | None ↦ None
+      | Some q ↦ default_value g p q (default_start p.names announced f k)
+    ]
 
 abbrev pub default_of : Given → Program → List Function → List Function → ℕ → ℕ → Option Value
 default_of g p announced functions n k =
-    elim (slice_get functions n) [
-      | None ↦ None
-      | Some f ↦ default_value g p (slice_get f.params k) (default_start p.names announced f k)
-    ]
+    elim (slice_get functions n) [ None ↦ None | Some f ↦ default_at g p announced f k ]
 
 -- functions that are announced and have no body, each once; calls may choose them, and then a rule of
 -- declarations is broken
@@ -310,30 +346,31 @@ without_body names known (f ∷ fs) =
 abbrev pub defined_functions : List Item → List Function
 defined_functions items = flat_map functions_in items
 
+abbrev pub announced_functions : List Item → List Function
+announced_functions items = flat_map announced_in items
+
 abbrev pub bodiless_functions : Names → List Item → List Function
-bodiless_functions names items =
-    without_body names (defined_functions items) (flat_map announced_in items)
+bodiless_functions names items = without_body names (defined_functions items) (announced_functions items)
 
 abbrev pub all_functions : Names → List Item → List Function
 all_functions names items = defined_functions items ++ bodiless_functions names items
 
--- what is known of a program
-abbrev pub with_types : List Item → Program → Program
-with_types items p =
-    record p {
-      structures = supplied_layouts ++ layouts p (flat_map classes_in items);
-      enumerations = flat_map (enumeration p) items;
-    }
+-- what is known of a program whose types are known, with its global variables and functions
+abbrev pub with_known :
+    Given → Program → List Known → List Signature → List Function → List Function → Program
+with_known g p globals signatures announced functions =
+    record p { globals = globals; functions = signatures; default = default_of g p announced functions }
 
-abbrev pub with_things : Given → List Item → Program → Program
-with_things g items p =
-    let functions = all_functions p.names items in
-    let announced = flat_map announced_in items in
-    record p {
-      globals = globals_from p 0 (flat_map variables_in items);
-      functions = signatures_from p announced 0 functions;
-      default = default_of g p announced functions;
-    }
+abbrev pub with_things : Given → Names → List Item → Program → Program
+with_things g names items p =
+    let functions = all_functions names items in
+    let announced = announced_functions items in
+    with_known g p (globals_from p 0 (flat_map variables_in items)) (signatures_from p announced 0 functions)
+    announced functions
+
+-- what is known of a program whose names mean this
+abbrev pub program_with : Given → Names → List Item → Program
+program_with g names items = with_things g names items (with_types g names items (of_types g names items))
 
 unfoldable pub program_of : Given → List Item → Program
-program_of g items = with_things g items (with_types items (of_types g items))
+program_of g items = program_with g (names_of items) items

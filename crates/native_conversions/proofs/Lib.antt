@@ -1,0 +1,4 @@
+pub mod Calendar
+pub mod Stretched
+pub mod Laws
+pub mod Numbers

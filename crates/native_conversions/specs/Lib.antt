@@ -1,0 +1,4 @@
+pub mod Conversions
+pub mod Days
+pub mod LowBits
+pub mod Stretches

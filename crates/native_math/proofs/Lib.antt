@@ -1,0 +1,4 @@
+pub mod PowerSteps
+pub mod Roots
+mod Samples
+pub mod Sizes
