@@ -11,16 +11,9 @@ ghost use Rattle.desk.specs.Effect.{expiries};
 use crate::books::Books;
 use account::RemovalCause;
 use fx8::{OutOfMemory, Tickets};
+use judgement::second_of;
 use market_types::Quote;
 use positions::PositionRule;
-
-/// The second of a time in milliseconds.
-#[tactic(auto, unfolding(judgement::specs::Rules::second_of))]
-fn second_of(time_ms: i64) -> i64
-    ensures { result ≡ second_of time_ms }
-{
-    time_ms.div_euclid(1000)
-}
 
 /// The tickets of the orders whose time is over at a quote.
 fn expired<P: PositionRule + Drop>(books: &Books<P>, quote: &Quote) -> Result<Tickets, OutOfMemory>

@@ -22,19 +22,10 @@ use crate::requests::{close, is_full};
 use crate::{DeskFault, Trigger};
 use account::{DealReason, Order, OrderKind, RemovalCause, copy_text, same_side};
 use fx8::{Fix8, OutOfMemory, Text};
+use judgement::kind_buys;
 use market_types::Quote;
 use positions::{Fill, PositionRule, has_money};
 use std::alloc::Global;
-
-/// Whether a kind of order buys.
-fn kind_buys(kind: OrderKind) -> bool
-    ensures { result ≡ kind_buys kind }
-{
-    match kind {
-        OrderKind::BuyLimit | OrderKind::BuyStop | OrderKind::BuyStopLimit => true,
-        OrderKind::SellLimit | OrderKind::SellStop | OrderKind::SellStopLimit => false,
-    }
-}
 
 /// Whether an order becomes a limit order where it fires.
 fn is_stop_limit(kind: OrderKind) -> bool

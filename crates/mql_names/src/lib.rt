@@ -17,6 +17,7 @@ pub use program::{first_broken, meanings_of, told_with};
 pub use rules::{has_default, is_unknown, type_place};
 pub use scope::Named;
 pub use types::{
-    Meaning, Meanings, Sort, form_of, is_defined, meaning_of, type_key, type_name, type_sort,
+    Meaning, Meanings, Sort, form_of, is_defined, meaning_of, named_sort, param_keys, type_key,
+    type_name, type_sort,
 };
 pub use walk::{own_locals, shares};

@@ -106,8 +106,9 @@ fn own_sort(names: &Meanings<'_>, name: &[u16]) -> Sort
     }
 }
 
+/// What type a name is: a word of the language, a declared type or a supplied one.
 #[tactic(auto, unfolding(crate::specs::Types::named_sort))]
-fn named_sort(names: &Meanings<'_>, name: &[u16]) -> Sort
+pub fn named_sort(names: &Meanings<'_>, name: &[u16]) -> Sort
     ensures { result ≡ named_sort (meaning names.now) name.now }
 {
     match reserved_word(name) {
@@ -164,7 +165,7 @@ pub fn is_defined(body: &Body) -> bool
 }
 
 /// How the types of parameters are spelled, each with a comma behind it.
-fn param_keys(alloc: Global, names: &Meanings<'_>, params: &[Param]) -> Result<Text, OutOfMemory>
+pub fn param_keys(alloc: Global, names: &Meanings<'_>, params: &[Param]) -> Result<Text, OutOfMemory>
     ensures { IfOk result (λ text. text ≡ param_keys (meaning names.now) params.now) }
 {
     let mut text = Text::new(alloc);

@@ -5,9 +5,8 @@ ghost use Rattle.mql_names.specs.Maps.{meaning};
 ghost use Rattle.mql_program.specs.Lists.{all_lent};
 ghost use Rattle.mql_program.specs.Programs.{functions_in, announced_in, is_one_function, stands_among, without_body, defined_functions, announced_functions, bodiless_functions, all_functions};
 
-use crate::sorts::param_keys;
 use fx8::{ItemList, OutOfMemory};
-use mql_names::{Meanings, is_defined};
+use mql_names::{Meanings, is_defined, param_keys};
 use mql_syntax::{Function, Item};
 use std::alloc::Global;
 

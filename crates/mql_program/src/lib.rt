@@ -7,7 +7,6 @@ mod functions;
 mod globals;
 mod named;
 mod signatures;
-mod sorts;
 mod source;
 mod starts;
 mod structures;

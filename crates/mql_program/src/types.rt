@@ -6,12 +6,11 @@ ghost use Rattle.mql_program.specs.Tables.{types_in};
 
 use crate::enumerations::enumerations_of;
 use crate::named::{named_enumerations, named_structures};
-use crate::sorts::named_sort;
 use crate::source::SourceFacts;
 use crate::structures::structures_of;
 use fx8::{ItemList, OutOfMemory};
 use mql_mean::Value;
-use mql_names::{Meanings, Sort, meaning_of, type_sort};
+use mql_names::{Meanings, Sort, meaning_of, named_sort, type_sort};
 use mql_scope::{Enumeration, Known, Layout, ProgramFacts};
 use mql_syntax::{Item, Place, TypeUse, Value as SyntaxValue};
 use mql_types::Signature;

@@ -46,7 +46,8 @@ fn native_number(name: &[u16]) -> Option<ConstantValue>
     }
 }
 
-fn global_number(names: &Meanings<'_>, values: &Values<'_>, name: &[u16]) -> Option<ConstantValue>
+/// The number that a name of the program's own scope, or of the language, stands for.
+pub fn global_number(names: &Meanings<'_>, values: &Values<'_>, name: &[u16]) -> Option<ConstantValue>
     ensures { result ≡ spec.global_number (meaning names.now) (value_at values.now) name.now }
 {
     match meaning_of(names, name) {
@@ -73,6 +74,18 @@ fn is_pointer(of: &TypeUse) -> bool
     }
 }
 
+/// The simple type that a written type stands for; an enumeration stands for `int`.
+#[tactic(auto, unfolding(crate::specs::Members::simple_in))]
+pub fn simple_in(names: &Meanings<'_>, of: &TypeUse) -> Option<SimpleType>
+    ensures { result ≡ spec.simple_in (meaning names.now) of.now }
+{
+    if is_pointer(of) {
+        None
+    } else {
+        sort_number(type_sort(names, of))
+    }
+}
+
 /// What names and types mean at a place.
 #[derive(Drop)]
 struct Scope<'a, 'n, 'v> {
@@ -96,13 +109,8 @@ impl ConstantScope for Scope<'_, '_, '_> {
         }
     }
 
-    #[tactic(auto, unfolding(crate::specs::Members::simple_in))]
     fn simple_type(&self, of: &TypeUse) -> Option<SimpleType> {
-        if is_pointer(of) {
-            None
-        } else {
-            sort_number(type_sort(self.names, of))
-        }
+        simple_in(self.names, of)
     }
 }
 
