@@ -14,6 +14,6 @@ pub use accept::{Judged, judge_request};
 pub use act::{Act, Next, act_of};
 pub use judge::refusal;
 pub use request::{Answer, Request};
-pub use rules::{kind_buys, second_of};
 pub use return_code::ReturnCode;
+pub use rules::{kind_buys, second_of};
 pub use words::{Action, Filling};

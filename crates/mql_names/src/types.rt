@@ -165,7 +165,11 @@ pub fn is_defined(body: &Body) -> bool
 }
 
 /// How the types of parameters are spelled, each with a comma behind it.
-pub fn param_keys(alloc: Global, names: &Meanings<'_>, params: &[Param]) -> Result<Text, OutOfMemory>
+pub fn param_keys(
+    alloc: Global,
+    names: &Meanings<'_>,
+    params: &[Param],
+) -> Result<Text, OutOfMemory>
     ensures { IfOk result (λ text. text ≡ param_keys (meaning names.now) params.now) }
 {
     let mut text = Text::new(alloc);

@@ -47,7 +47,11 @@ fn native_number(name: &[u16]) -> Option<ConstantValue>
 }
 
 /// The number that a name of the program's own scope, or of the language, stands for.
-pub fn global_number(names: &Meanings<'_>, values: &Values<'_>, name: &[u16]) -> Option<ConstantValue>
+pub fn global_number(
+    names: &Meanings<'_>,
+    values: &Values<'_>,
+    name: &[u16],
+) -> Option<ConstantValue>
     ensures { result ≡ spec.global_number (meaning names.now) (value_at values.now) name.now }
 {
     match meaning_of(names, name) {
