@@ -1,14 +1,12 @@
 //! Calls of the program's functions and of native functions: what they take, and what is told of them.
 #![tactic(auto)]
 
-mod calls;
 mod handed;
 mod made;
 mod native_calls;
 mod native_rules;
 mod nodes;
 
-pub use calls::{ArgumentRule, chosen_in, is_equal, is_nothing, some_pair};
 pub use made::{call_info, chosen};
 pub use native_calls::native_info;
 pub use native_rules::{element, flags_no_line, lends_native, wrong_arguments};

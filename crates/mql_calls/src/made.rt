@@ -4,9 +4,9 @@ ghost use Rattle.std.specs.Option.{option_copied};
 ghost use Rattle.mql_calls.specs.Nodes.{all_kept};
 ghost use Rattle.mql_calls.specs.Calls.{chosen, handed, handed_over, call_expression, given_in, call_info};
 
-use crate::calls::chosen_in;
 use crate::handed::{Handed, Value, lent, next_place};
 use fx8::{ItemList, OutOfMemory, Stack};
+use mql_arguments::chosen_in;
 use mql_meaning::{Callee, Expression, VarType};
 use mql_scope::ProgramFacts;
 use mql_typed::{Info, a_value, converted, nothing};

@@ -1,7 +1,6 @@
 -- Whole programs, judged by hand.
-use Rattle.std.proofs.Common.{◌≡◌, ℕ, pos, Bool, true, false, List, [], ◌∷◌, Option, Some, None, refl}
+use Rattle.std.proofs.Common.{◌≡◌, ℕ, pos, true, false, List, [], ◌∷◌, Option, Some, None, refl}
 use Rattle.std.specs.Prelude.{codes}
-use Rattle.fx8.specs.declared.int_kind.IntKind.TheVariants as kind
 use Rattle.fx8.specs.Integers as Integers
 use Rattle.mql_spelling.specs.ReservedWords as ReservedWords
 use Rattle.mql_syntax.specs.declared.value.TypeUse.{TypeUse}
@@ -19,13 +18,11 @@ use Rattle.mql_syntax.specs.declared.value.Operation.TheVariants as operation
 use Rattle.mql_syntax.specs.declared.declaration.Words.{Words}
 use Rattle.mql_syntax.specs.declared.declaration.Variable.{Variable}
 use Rattle.mql_syntax.specs.declared.declaration.Dimension.{Dimension}
-use Rattle.mql_syntax.specs.declared.declaration.Dimension.TheVariants.{Open, Size}
+use Rattle.mql_syntax.specs.declared.declaration.Dimension.TheVariants.{Size}
 use Rattle.mql_syntax.specs.declared.declaration.Start.{Start}
 use Rattle.mql_syntax.specs.declared.declaration.Start.TheVariants as start
 use Rattle.mql_syntax.specs.declared.declaration.Body.{Body}
 use Rattle.mql_syntax.specs.declared.declaration.Body.TheVariants as body
-use Rattle.mql_syntax.specs.declared.declaration.Function.{Function}
-use Rattle.mql_syntax.specs.declared.declaration.Member.{Member}
 use Rattle.mql_syntax.specs.declared.declaration.Member.TheVariants as members
 use Rattle.mql_syntax.specs.declared.declaration.Parent.{Parent}
 use Rattle.mql_syntax.specs.declared.kind.Access.{Access}
@@ -33,7 +30,6 @@ use Rattle.mql_syntax.specs.declared.kind.Access.TheVariants as accesses
 use Rattle.mql_syntax.specs.declared.kind.ClassKind.TheVariants as class_kinds
 use Rattle.mql_syntax.specs.declared.declaration.Item.{Item}
 use Rattle.mql_syntax.specs.declared.declaration.Item.TheVariants as item
-use Rattle.mql_syntax.specs.declared.declaration.Syntax.{Syntax}
 use Rattle.mql_mean.specs.declared.value.Value.TheBlock as ConstantRow
 use Rattle.mql_mean.specs.declared.value.Value.TheViews as ConstantView
 use Rattle.mql_names.specs.declared.fault.Broken.{Broken}
@@ -42,10 +38,10 @@ use Rattle.mql_names.specs.Events as Events
 use Rattle.mql_types.specs.Overloads as Overloads
 use Rattle.mql_expressions.specs.Rules as Rules
 use Rattle.mql_expressions.specs.Made as Made
-use Rattle.mql_statements.specs.Statements as Statements
+use Rattle.mql_statements.specs.Rules as Statements
 use Rattle.mql_check.specs.Programs.{told_broken, breaks_bodies}
 use Rattle.mql_program.specs.Programs.{Given, program_of}
-use Rattle.mql_check.proofs.Words.{at, name, number, real, truth, node, statement, constant_of}
+use Rattle.mql_check.proofs.Words.{at, name, number, real, node, statement, constant_of}
 
 given : Given
 given = record { constant = λ ks. constant_of; as_type = λ b v. Some v; line = λ p. p.first; file = λ p. [] }

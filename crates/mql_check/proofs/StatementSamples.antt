@@ -1,10 +1,8 @@
 -- Statements, typed by hand.
-use Rattle.std.proofs.Common.{◌≡◌, ℕ, pos, Bool, true, false, List, [], ◌∷◌, Option, Some, None, refl}
+use Rattle.std.proofs.Common.{◌≡◌, ℕ, pos, true, false, List, [], ◌∷◌, refl}
 use Rattle.std.specs.Prelude.{codes}
 use Rattle.fx8.specs.declared.int_kind.IntKind.TheVariants as kind
 use Rattle.mql_mean.specs.declared.value.Value.TheVariants as value
-use Rattle.mql_meaning.specs.declared.types.Sort.TheVariants as sort
-use Rattle.mql_meaning.specs.declared.operator.Operator.TheVariants as o
 use Rattle.mql_meaning.specs.declared.tree.Expression.TheVariants as e
 use Rattle.mql_meaning.specs.declared.tree.Statement.TheVariants as s
 use Rattle.mql_syntax.specs.declared.kind.StatementKind.TheVariants as stating

@@ -1,10 +1,9 @@
 -- Expressions, typed by hand.
-use Rattle.std.proofs.Common.{◌≡◌, ℕ, pos, Bool, true, false, List, [], ◌∷◌, Option, Some, None, refl}
+use Rattle.std.proofs.Common.{◌≡◌, true, false, List, [], ◌∷◌, Some, refl}
 use Rattle.std.specs.Prelude.{codes}
 use Rattle.fx8.specs.declared.int_kind.IntKind.TheVariants as kind
 use Rattle.fx8.specs.declared.int_operator.IntOperator.TheVariants as op
 use Rattle.natives.specs.declared.types.SimpleType.TheVariants as simple
-use Rattle.mql_mean.specs.declared.value.Value.TheVariants as value
 use Rattle.mql_meaning.specs.declared.types.Sort.TheVariants as sort
 use Rattle.mql_meaning.specs.declared.operator.Operator.TheVariants as o
 use Rattle.mql_meaning.specs.declared.tree.Expression.TheVariants as e
@@ -14,8 +13,7 @@ use Rattle.mql_syntax.specs.declared.value.Operation.TheVariants as operation
 use Rattle.mql_syntax.specs.declared.value.Value.{Value}
 use Rattle.mql_types.specs.declared.types.Base.TheVariants as base
 use Rattle.mql_typed.specs.Typed.{a_value, nothing}
-use Rattle.mql_expressions.specs.declared.findings.Found.{Found}
-use Rattle.mql_check.proofs.Words.{name, number, real, truth, node, of, single, line, parameter, function, read, finds, breaks}
+use Rattle.mql_check.proofs.Words.{name, number, node, of, single, line, parameter, function, read, finds, breaks}
 
 -- i / i is of int
 divides : finds [] (node 1 (operation.Binary binary.Divide) (name 1 (codes "i") ∷ name 1 (codes "i") ∷ []))

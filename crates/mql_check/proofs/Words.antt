@@ -1,6 +1,6 @@
 -- Words for small sources, and how they are typed.
-use Rattle.std.proofs.Common.{◌≡◌, ℕ, ℤ, pos, Bool, true, false, List, [], ◌∷◌, Option, Some, None}
-use Rattle.std.specs.Prelude.{codes, if◌then◌else◌}
+use Rattle.std.proofs.Common.{ℕ, ℤ, pos, Bool, false, List, [], ◌∷◌, Option, Some, None}
+use Rattle.std.specs.Prelude.{codes}
 use Rattle.fx8.specs.declared.int_kind.IntKind.{IntKind}
 use Rattle.fx8.specs.declared.int_kind.IntKind.TheVariants as kind
 use Rattle.fx8.specs.Integers as Integers
@@ -11,9 +11,7 @@ use Rattle.mql_meaning.specs.declared.tree.Expression.{Expression}
 use Rattle.mql_meaning.specs.declared.tree.Expression.TheVariants as e
 use Rattle.mql_meaning.specs.declared.operator.Operator.TheVariants as o
 use Rattle.mql_syntax.specs.declared.kind.Place.{Place}
-use Rattle.mql_syntax.specs.declared.kind.BinaryOperator.{BinaryOperator}
 use Rattle.mql_syntax.specs.declared.kind.StatementKind.{StatementKind}
-use Rattle.mql_syntax.specs.declared.kind.StatementKind.TheVariants as stating
 use Rattle.mql_syntax.specs.declared.value.Operation.{Operation}
 use Rattle.mql_syntax.specs.declared.value.Operation.TheVariants as operation
 use Rattle.mql_syntax.specs.declared.value.Value.{Value}
@@ -31,17 +29,16 @@ use Rattle.mql_types.specs.declared.overloads.Signature.{Signature}
 use Rattle.mql_types.specs.Overloads as Overloads
 use Rattle.mql_scope.specs.declared.context.Known.{Known}
 use Rattle.mql_scope.specs.declared.context.Storage.TheVariants as storage
-use Rattle.mql_typed.specs.declared.info.Info.{Info}
 use Rattle.mql_typed.specs.declared.info.Standing.{Standing}
 use Rattle.mql_typed.specs.declared.info.Standing.TheVariants as stand
 use Rattle.mql_scope.specs.Contexts.{Text, Program, Context}
 use Rattle.mql_expressions.specs.declared.findings.Found.{Found}
 use Rattle.mql_expressions.specs.Values.{found}
 use Rattle.mql_statements.specs.declared.told.Told.{Told}
-use Rattle.mql_statements.specs.Statements.{told}
+use Rattle.mql_statement_walk.specs.Walk.{told}
 use Rattle.mql_expressions.specs.Rules as Rules
 use Rattle.mql_expressions.specs.Made as Made
-use Rattle.mql_statements.specs.Statements as Statements
+use Rattle.mql_statements.specs.Rules as Statements
 use Rattle.mql_syntax.specs.declared.value.Value.TheBlock as ValueRow
 use Rattle.mql_syntax.specs.declared.statement.Statement.TheBlock as StatementRow
 use Rattle.mql_mean.specs.declared.value.Value.TheBlock as ConstantRow

@@ -35,9 +35,9 @@ use Rattle.mql_scope.specs.Names.{name_info, callee}
 use Rattle.mql_typed.specs.Typed.{value_base}
 use Rattle.mql_typed.specs.Operations.{on, int_operator}
 use Rattle.mql_calls.specs.Nodes.{Node, Rule, passes, nth, ask, some_part, is_void, is_whole_array, no_place, is_constant, is_of_input, told, arguments_of}
-use Rattle.mql_calls.specs.declared.calls.ArgumentRule.{ArgumentRule}
-use Rattle.mql_calls.specs.declared.calls.ArgumentRule.TheVariants as argument
-use Rattle.mql_calls.specs.Calls.{chosen_in, is_nothing, is_equal, some_pair, breaks}
+use Rattle.mql_arguments.specs.declared.rules.ArgumentRule.{ArgumentRule}
+use Rattle.mql_arguments.specs.declared.rules.ArgumentRule.TheVariants as argument
+use Rattle.mql_arguments.specs.Arguments.{chosen_in, is_nothing, is_equal, some_pair, breaks}
 use Rattle.mql_calls.specs.NativeCalls.{wrong_arguments, lends_native, flags_no_line}
 use Rattle.mql_expressions.specs.declared.handed.Handed.{Handed}
 

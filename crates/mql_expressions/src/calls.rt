@@ -5,7 +5,7 @@ ghost use Rattle.mql_types.specs.declared.types.Base.{Base};
 ghost use Rattle.mql_typed.specs.Operations.{on};
 ghost use Rattle.mql_scope.specs.Places.{context_at};
 ghost use Rattle.mql_calls.specs.Nodes.{passes, ask, some_part, is_whole_array, is_constant};
-ghost use Rattle.mql_calls.specs.declared.calls.ArgumentRule.TheVariants as argument;
+ghost use Rattle.mql_arguments.specs.declared.rules.ArgumentRule.TheVariants as argument;
 ghost use Rattle.mql_expressions.specs.Rules.{is_one, is_call, changes, is_index, takes_arrays, callee_of, handed_at, converts_to, not_callable, no_overload, fit_equally, wrong_native, reference_no_place, reference_differs, constant_changed, no_conversion, fits_not_in, no_cast, array_used, series_flag, breaks_at};
 ghost use Rattle.mql_expressions.specs.Views.{node_of};
 
@@ -20,7 +20,7 @@ use crate::operands::{
 };
 use crate::tests::{changes, is_call, is_index, takes_arrays};
 use fx8::OutOfMemory;
-use mql_calls::ArgumentRule;
+use mql_arguments::ArgumentRule;
 use mql_scope::{Callee, Here, ProgramFacts};
 use mql_syntax::Operation;
 use mql_typed::{Info, int_operator};

@@ -10,10 +10,8 @@ ghost use Rattle.mql_expressions.specs.Views.{node_of};
 
 use crate::node::NodeView;
 use fx8::{ItemList, OutOfMemory};
-use mql_calls::{
-    ArgumentRule, arguments_of, chosen_in, flags_no_line, is_equal, is_nothing, lends_native,
-    some_pair, wrong_arguments,
-};
+use mql_arguments::{ArgumentRule, chosen_in, is_equal, is_nothing, some_pair};
+use mql_calls::{arguments_of, flags_no_line, lends_native, wrong_arguments};
 use mql_scope::{Callee, Here, ProgramFacts, callee_of};
 use mql_typed::Info;
 use mql_types::{Argument, Base, Choice, Signature, choose};

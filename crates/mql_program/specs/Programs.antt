@@ -47,7 +47,7 @@ use Rattle.mql_typed.specs.declared.info.Standing.{Standing}
 use Rattle.mql_typed.specs.declared.info.Standing.TheVariants as stand
 use Rattle.mql_scope.specs.Contexts.{Text, Program, written, either}
 use Rattle.mql_typed.specs.Typed.{single}
-use Rattle.mql_statements.specs.Statements.{declared_standing, variable_type}
+use Rattle.mql_statements.specs.Variables.{declared_standing, variable_type}
 
 -- What typing takes from elsewhere: the constant that an expression is, if it is one, by what the names of the
 -- program mean and the members of its enumerations; a constant taken into a type; the line and the file of a node.

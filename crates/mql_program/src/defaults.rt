@@ -73,7 +73,7 @@ fn as_type<S: SourceFacts>(
 
 fn default_value<S: SourceFacts>(
     alloc: Global,
-    types: &Types<'_, S>,
+    types: &Types<'_, '_, S>,
     q: &Param,
     start: Option<&Start>,
 ) -> Result<Option<Value>, OutOfMemory>
@@ -92,7 +92,7 @@ fn default_value<S: SourceFacts>(
 
 fn default_at<S: SourceFacts>(
     alloc: Global,
-    types: &Types<'_, S>,
+    types: &Types<'_, '_, S>,
     announced: &[&Function],
     f: &Function,
     place: u32,
@@ -113,7 +113,7 @@ fn default_at<S: SourceFacts>(
 #[tactic(auto, using(crate::proofs::Parts::lent_at, crate::proofs::Parts::none_lent_at))]
 pub(crate) fn default_of<S: SourceFacts>(
     alloc: Global,
-    types: &Types<'_, S>,
+    types: &Types<'_, '_, S>,
     announced: &[&Function],
     functions: &[&Function],
     number: u32,

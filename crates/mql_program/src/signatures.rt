@@ -34,7 +34,7 @@ fn has_default(
 
 fn parameter<S: SourceFacts>(
     alloc: Global,
-    types: &Types<'_, S>,
+    types: &Types<'_, '_, S>,
     announced: &[&Function],
     f: &Function,
     place: u32,
@@ -55,7 +55,7 @@ fn parameter<S: SourceFacts>(
 
 fn parameters_of<S: SourceFacts>(
     alloc: Global,
-    types: &Types<'_, S>,
+    types: &Types<'_, '_, S>,
     announced: &[&Function],
     f: &Function,
 ) -> Result<ItemList<Parameter>, OutOfMemory>
@@ -85,7 +85,7 @@ pub fn result_of<P: ProgramFacts>(program: &P, f: &Function) -> Result<Option<Ba
 
 fn signature<S: SourceFacts>(
     alloc: Global,
-    types: &Types<'_, S>,
+    types: &Types<'_, '_, S>,
     announced: &[&Function],
     number: u32,
     f: &Function,
@@ -107,7 +107,7 @@ fn signature<S: SourceFacts>(
 /// Functions as calls see them, numbered from 0 on.
 pub(crate) fn signatures_of<S: SourceFacts>(
     alloc: Global,
-    types: &Types<'_, S>,
+    types: &Types<'_, '_, S>,
     announced: &[&Function],
     functions: &[&Function],
 ) -> Result<ItemList<Signature>, OutOfMemory>

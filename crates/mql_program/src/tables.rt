@@ -21,8 +21,8 @@ use std::alloc::Global;
 
 /// What is known of a program.
 #[derive(Drop)]
-pub struct Tables<'a, S> {
-    types: Types<'a, S>,
+pub struct Tables<'a, 'n, S> {
+    types: Types<'a, 'n, S>,
     /// The global variables.
     globals: ItemList<Known>,
     /// The functions as calls see them.
@@ -33,7 +33,7 @@ pub struct Tables<'a, S> {
     functions: ItemList<&'a Function>,
 }
 
-impl<S: SourceFacts> ProgramFacts for Tables<'_, S> {
+impl<S: SourceFacts> ProgramFacts for Tables<'_, '_, S> {
     ghost program = { program_in S.given };
 
     fn type_sort(&self, of: &TypeUse) -> Sort {
@@ -100,11 +100,11 @@ impl<S: SourceFacts> ProgramFacts for Tables<'_, S> {
 
 /// The tables of a program whose types are known.
 #[tactic(auto, using(crate::proofs::Whole::things_known))]
-fn tables_with<'a, S: SourceFacts>(
+fn tables_with<'a, 'n, S: SourceFacts>(
     alloc: Global,
-    types: Types<'a, S>,
+    types: Types<'a, 'n, S>,
     items: &'a [Item],
-) -> Result<Tables<'a, S>, OutOfMemory>
+) -> Result<Tables<'a, 'n, S>, OutOfMemory>
     ensures { IfOk result (λ t. program_in S.given t ≡
         with_things (S.given types.entry.source.now) (meaning types.entry.names.now) items.now
         (types_in S.given types.entry)) }
@@ -125,12 +125,12 @@ fn tables_with<'a, S: SourceFacts>(
 
 /// The tables of a program of these items, where its names are known: what is known of the program is
 /// `program_of`.
-pub fn tables_of<'a, S: SourceFacts>(
+pub fn tables_of<'a, 'n, S: SourceFacts>(
     alloc: Global,
     source: &'a S,
-    names: &'a Meanings<'a>,
+    names: &'a Meanings<'n>,
     items: &'a [Item],
-) -> Result<Tables<'a, S>, OutOfMemory>
+) -> Result<Tables<'a, 'n, S>, OutOfMemory>
     requires { meaning names.now ≡ names_of items.now }
     ensures { IfOk result (λ t. program_in S.given t ≡ program_of (S.given source.now) items.now) }
 {

@@ -18,16 +18,16 @@ use std::alloc::Global;
 
 /// What is known of the types of a program: as a program, one without global variables and functions.
 #[derive(Drop)]
-pub(crate) struct Types<'a, S> {
+pub(crate) struct Types<'a, 'n, S> {
     pub(crate) source: &'a S,
     /// What its names mean.
-    pub(crate) names: &'a Meanings<'a>,
+    pub(crate) names: &'a Meanings<'n>,
     /// The structures, the supplied ones first.
     pub(crate) structures: ItemList<Layout>,
     pub(crate) enumerations: ItemList<Enumeration>,
 }
 
-impl<S: SourceFacts> ProgramFacts for Types<'_, S> {
+impl<S: SourceFacts> ProgramFacts for Types<'_, '_, S> {
     ghost program = { types_in S.given };
 
     fn type_sort(&self, of: &TypeUse) -> Sort {
@@ -86,12 +86,12 @@ impl<S: SourceFacts> ProgramFacts for Types<'_, S> {
 }
 
 /// The types of a program by what they are called, and nothing else yet.
-fn named_types<'a, S: SourceFacts>(
+fn named_types<'a, 'n, S: SourceFacts>(
     alloc: Global,
     source: &'a S,
-    names: &'a Meanings<'a>,
+    names: &'a Meanings<'n>,
     items: &[Item],
-) -> Result<Types<'a, S>, OutOfMemory>
+) -> Result<Types<'a, 'n, S>, OutOfMemory>
     ensures types { IfOk result (λ t. types_in S.given t ≡
         of_types (S.given source.now) (meaning names.now) items.now) }
     ensures source { IfOk result (λ t. t.source.now ≡ source.now) }
@@ -108,11 +108,11 @@ fn named_types<'a, S: SourceFacts>(
 }
 
 /// The types of a program, with fields and members.
-fn whole_types<'a, S: SourceFacts>(
+fn whole_types<'a, 'n, S: SourceFacts>(
     alloc: Global,
-    named: &Types<'a, S>,
+    named: &Types<'a, 'n, S>,
     items: &[Item],
-) -> Result<Types<'a, S>, OutOfMemory>
+) -> Result<Types<'a, 'n, S>, OutOfMemory>
     ensures types { IfOk result (λ t. types_in S.given t ≡
         with_types (S.given named.now.source.now) (meaning named.now.names.now) items.now
         (types_in S.given named.now)) }
@@ -130,12 +130,12 @@ fn whole_types<'a, S: SourceFacts>(
 }
 
 /// What is known of the types of a program.
-pub(crate) fn types_of<'a, S: SourceFacts>(
+pub(crate) fn types_of<'a, 'n, S: SourceFacts>(
     alloc: Global,
     source: &'a S,
-    names: &'a Meanings<'a>,
+    names: &'a Meanings<'n>,
     items: &[Item],
-) -> Result<Types<'a, S>, OutOfMemory>
+) -> Result<Types<'a, 'n, S>, OutOfMemory>
     ensures types { IfOk result (λ t. types_in S.given t ≡
         with_types (S.given source.now) (meaning names.now) items.now
         (of_types (S.given source.now) (meaning names.now) items.now)) }

@@ -1,2 +1,2 @@
 mod Closed
-mod ThenTold
+pub mod ThenTold

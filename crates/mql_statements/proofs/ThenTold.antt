@@ -2,7 +2,7 @@
 use Rattle.std.proofs.Common.{◌≡◌, ◌+◌, ℕ, List, [], ◌∷◌, ◌++◌, length, map, take, refl, sym, ap, ◌∙◌, arith, append-nil, append_assoc, length-append}
 use Rattle.mql_statements.specs.declared.told.Label.{Label}
 use Rattle.mql_statements.specs.declared.told.Told.{Told}
-use Rattle.mql_statements.specs.Statements.{nothing_told, moved, then_told, joined}
+use Rattle.mql_statements.specs.Told.{nothing_told, moved, then_told, joined}
 
 pub map_more : {A B : Type 0} (f : A → B) (xs : List A) (x : A) → map f (xs ++ x ∷ []) ≡ map f xs ++ f x ∷ []
 map_more f [] x = refl

@@ -1,3 +1,4 @@
-pub mod Initialisers
 pub mod Closing
-pub mod Statements
+pub mod Told
+pub mod Variables
+pub mod Rules

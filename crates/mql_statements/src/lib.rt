@@ -1,4 +1,4 @@
-//! Typing of statements: what variables begin with, the rules of statements, where the end of a function is reached.
+//! Typing of statements: what statements tell, the rules of statements, where the end of a function is reached.
 #![tactic(auto)]
 
 mod closing;
@@ -8,6 +8,10 @@ mod told;
 mod variables;
 
 pub use closing::closes;
+pub use labels::switch_kind;
 pub use rules::lowest;
-pub use told::{Label, LabelValue, Static, Told, joined, nothing_told, then_told};
+pub use told::{
+    Label, LabelValue, Static, Told, count, evaluated, has_declared, joined, nothing_told,
+    then_told,
+};
 pub use variables::{declared_standing, dimensions_of, known, size_of, variable_type};

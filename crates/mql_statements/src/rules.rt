@@ -3,7 +3,7 @@ ghost use Rattle.std.specs.Prelude.{◌≡◌};
 ghost use Rattle.std.specs.Option.{option_copied};
 ghost use Rattle.mql_calls.specs.Nodes.{nth};
 ghost use Rattle.mql_scope.specs.Places.{context_at};
-ghost use Rattle.mql_statements.specs.Statements.{first_base, is_tested, is_switch, is_delete, wants_value, return_no_fit, test_no_number, switch_no_integer, value_kind, label_repeated, outside, against_result, void_used, array_used, no_pointer, deletes_no_pointer, lowest};
+ghost use Rattle.mql_statements.specs.Rules.{first_base, is_tested, is_switch, is_delete, wants_value, return_no_fit, test_no_number, switch_no_integer, value_kind, label_repeated, outside, against_result, void_used, array_used, no_pointer, deletes_no_pointer, lowest};
 
 use crate::closing::is_return;
 use crate::labels::{some_no_constant, some_twice, switch_kind};
@@ -200,7 +200,7 @@ fn deletes_no_pointer(what: StatementKind, values: &[Option<Info>]) -> bool
 }
 
 /// The lowest of the rules that a statement breaks by itself, by what its values tell and by its labels.
-#[tactic(auto, unfolding(crate::specs::Statements::lowest))]
+#[tactic(auto, unfolding(crate::specs::Rules::lowest))]
 pub fn lowest<P: ProgramFacts>(
     here: &Here<'_, P>,
     what: StatementKind,

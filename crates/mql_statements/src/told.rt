@@ -1,6 +1,6 @@
 //! What statements are typed.
-ghost use Rattle.std.specs.Prelude.{◌≡◌, ◌+◌, ◌++◌, length, map, IfOk};
-ghost use Rattle.mql_statements.specs.Statements.{nothing_told, moved, then_told, joined, has_declared};
+ghost use Rattle.std.specs.Prelude.{◌≡◌, ◌+◌, ◌++◌, map, IfOk};
+ghost use Rattle.mql_statements.specs.Told.{nothing_told, moved, then_told, joined, has_declared, evaluated};
 
 use fx8::{ItemList, OutOfMemory, Stack};
 use mql_meaning::{Expression, Statement, VarType};
@@ -72,7 +72,7 @@ pub fn nothing_told(alloc: Global) -> Told
 }
 
 /// A number of statements: it takes memory for each.
-pub(crate) fn count(n: u64) -> Result<u32, OutOfMemory>
+pub fn count(n: u64) -> Result<u32, OutOfMemory>
     ensures { IfOk result (λ k. k ≡ n) }
 {
     match u32::try_from(n) {
@@ -154,8 +154,24 @@ pub fn joined(alloc: Global, parts: ItemList<Told>) -> Result<Told, OutOfMemory>
 }
 
 /// Whether there are variables.
-pub(crate) fn has_declared(known: &[Known]) -> bool
+pub fn has_declared(known: &[Known]) -> bool
     ensures { result ≡ has_declared known.now }
 {
     !known.is_empty()
+}
+
+/// Expressions evaluated one after another at a line.
+pub fn evaluated(
+    alloc: Global,
+    line: u32,
+    expressions: ItemList<Expression>,
+) -> Result<ItemList<Statement>, OutOfMemory>
+    ensures { IfOk result (λ ss. ss ≡ evaluated line expressions) }
+{
+    let mut made = ItemList::new(alloc);
+    let mut rest = Stack::of_list(expressions);
+    while let Some(e) = rest.pop() {
+        made.push(Statement::Evaluate(line, e))?;
+    }
+    Ok(made)
 }

@@ -1,7 +1,7 @@
 //! Variables that are declared: their types, and what is known of them.
 ghost use Rattle.std.specs.Prelude.{◌≡◌, map, IfOk};
 ghost use Rattle.mql_scope.specs.Contexts.{written};
-ghost use Rattle.mql_statements.specs.Statements.{size_at, size_in, size_of, dimensions_of, typed_of, variable_type, declared_standing, known};
+ghost use Rattle.mql_statements.specs.Variables.{size_at, size_in, size_of, dimensions_of, typed_of, variable_type, declared_standing, known};
 
 use fx8::{ItemList, OutOfMemory, Text};
 use mql_mean::Value;

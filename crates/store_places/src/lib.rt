@@ -17,4 +17,4 @@ pub use looks::{Seen, cell_at, object_in};
 pub use places::{at_root, copied_place, field_place};
 pub use pointers::{pointed, pointer_of};
 pub use puts::{put_base, put_in};
-pub use writes::{counts, read, replace, write};
+pub use writes::{counts, more_cells, read, replace, write};

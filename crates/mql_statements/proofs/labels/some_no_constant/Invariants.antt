@@ -1,5 +1,5 @@
 use Rattle.std.proofs.Common.{◌≡◌, length}
-use Rattle.mql_statements.specs.Statements.{some_no_constant}
+use Rattle.mql_statements.specs.Rules.{some_no_constant}
 use Rattle.mql_statements.proofs.labels.some_no_constant.Given as goal
 
 abbrev pub invariant-loop-rest : goal.invariant-loop-rest

@@ -1,5 +1,5 @@
 use Rattle.std.proofs.Common.{◌≡◌, length}
-use Rattle.mql_statements.specs.Statements.{stands_in}
+use Rattle.mql_statements.specs.Rules.{stands_in}
 use Rattle.mql_statements.proofs.labels.stands_in.Given as goal
 
 abbrev pub invariant-loop-rest : goal.invariant-loop-rest

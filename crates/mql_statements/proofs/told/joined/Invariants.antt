@@ -1,5 +1,5 @@
 use Rattle.std.proofs.Common.{◌≡◌, length}
-use Rattle.mql_statements.specs.Statements.{then_told, joined}
+use Rattle.mql_statements.specs.Told.{then_told, joined}
 use Rattle.mql_statements.proofs.told.joined.Given as goal
 
 abbrev pub invariant-loop-t : goal.invariant-loop-t

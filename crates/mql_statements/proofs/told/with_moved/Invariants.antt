@@ -1,5 +1,5 @@
 use Rattle.std.proofs.Common.{◌≡◌, ◌++◌, map, take}
-use Rattle.mql_statements.specs.Statements.{moved}
+use Rattle.mql_statements.specs.Told.{moved}
 use Rattle.mql_statements.proofs.told.with_moved.Given as goal
 
 abbrev pub invariant-loop-label : goal.invariant-loop-label

@@ -1,5 +1,5 @@
 use Rattle.std.proofs.Common.{◌≡◌, ◌++◌, map, take}
-use Rattle.mql_statements.specs.Statements.{size_of}
+use Rattle.mql_statements.specs.Variables.{size_of}
 use Rattle.mql_statements.proofs.variables.sizes_of.Given as goal
 
 abbrev pub invariant-loop-dimension : goal.invariant-loop-dimension

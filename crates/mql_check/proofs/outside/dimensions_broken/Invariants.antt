@@ -1,0 +1,12 @@
+use Rattle.std.proofs.Common.{◌≡◌, ◌++◌, length}
+use Rattle.std.specs.List.{flat_map}
+use Rattle.mql_check.specs.Variables.{dimension_broken}
+use Rattle.mql_check.proofs.outside.dimensions_broken.Given as goal
+
+abbrev pub invariant-loop-rest : goal.invariant-loop-rest
+invariant-loop-rest g l =
+    let p = g.P.ProgramFacts.program l.fn.program in
+    l.all ++ flat_map (dimension_broken p) l.rest ≡ flat_map (dimension_broken p) l.fn.v.dimensions
+
+abbrev pub decreases-loop-rest : goal.decreases-loop-rest
+decreases-loop-rest g l = length l.rest

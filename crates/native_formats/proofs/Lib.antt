@@ -1,0 +1,4 @@
+pub mod Flags
+pub mod Letters
+pub mod Piecewise
+pub mod Sixteens

@@ -1,0 +1,4 @@
+pub mod Spans
+pub mod Expressions
+pub mod Stands
+pub mod Follows

@@ -1,0 +1,12 @@
+//! Frames: calls begin and end, and locals begin anew.
+#![tactic(auto)]
+
+mod calls;
+mod operand;
+mod parameters;
+mod resets;
+
+pub use calls::{MOST_FRAMES, enter, leave};
+pub use operand::Operand;
+pub use parameters::{held, slots};
+pub use resets::reset;
