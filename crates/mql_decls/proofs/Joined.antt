@@ -24,11 +24,11 @@ use Rattle.mql_sizes.specs.Maps.{value_at, Holds}
 use Rattle.mql_sizes.proofs.Held.{same_values}
 use Rattle.mql_nesting.specs.Nesting.{breaks_nesting}
 use Rattle.mql_parents.specs.Parents.{breaks_parents}
-use Rattle.mql_bodies.specs.Bodies.{breaks_used}
 use Rattle.mql_decls.specs.declared.forms.StructureForm.{StructureForm}
 use Rattle.mql_decls.specs.declared.forms.FunctionForm.{FunctionForm}
 use Rattle.mql_decls.specs.declared.forms.GlobalForm.{GlobalForm}
 use Rattle.mql_decls.specs.declared.expanding.Decls.{Decls}
+use Rattle.mql_typing.specs.Sources.{breaks_used}
 use Rattle.mql_decls.specs.Rules.{all_breaks, first_broken}
 use Rattle.mql_decls.specs.declared.forms.StaticForm.{StaticForm}
 use Rattle.mql_decls.specs.Declarations.{numbered, item_functions, item_globals, item_statics, item_structures}
@@ -52,16 +52,16 @@ of_constants names s items es m r a b e h held k l t =
     ∙ ap (λ xs. full xs es) p ∙ ap (full (enumerations_of names [] s.items)) p
 
 of_three : (names : Names) (s : Syntax) (r a b d : Option Broken) → a ≡ told_of names (things_of names s) → b ≡ told (breaks_in names s)
-    → d ≡ told (breaks_used s) → r ≡ sooner a (sooner b d) → r ≡ told (flat_map (breaks names) (things_of names s) ++ (breaks_in names s ++ breaks_used s))
+    → d ≡ told (breaks_used s.items) → r ≡ sooner a (sooner b d) → r ≡ told (flat_map (breaks names) (things_of names s) ++ (breaks_in names s ++ breaks_used s.items))
 of_three names s r a b d h k l t =
     t ∙ ap (λ x. sooner x (sooner b d)) h
-    ∙ ap (sooner (told_of names (things_of names s))) (ap (λ x. sooner x d) k ∙ ap (sooner (told (breaks_in names s))) l ∙ sym (told_append (breaks_in names s) (breaks_used s)))
-    ∙ sym (told_append (flat_map (breaks names) (things_of names s)) (breaks_in names s ++ breaks_used s))
+    ∙ ap (sooner (told_of names (things_of names s))) (ap (λ x. sooner x d) k ∙ ap (sooner (told (breaks_in names s))) l ∙ sym (told_append (breaks_in names s) (breaks_used s.items)))
+    ∙ sym (told_append (flat_map (breaks names) (things_of names s)) (breaks_in names s ++ breaks_used s.items))
 
 pub of_all : (names : Names) (s : Syntax) (r q t a b d e f : Option Broken) → a ≡ told_of names (things_of names s) → b ≡ told (breaks_in names s)
-    → d ≡ told (breaks_used s) → e ≡ told (breaks_nesting s) → f ≡ told (breaks_parents names s) → q ≡ sooner a (sooner b d) → t ≡ sooner e f → r ≡ sooner q t → r ≡ told (all_breaks names s)
+    → d ≡ told (breaks_used s.items) → e ≡ told (breaks_nesting s) → f ≡ told (breaks_parents names s) → q ≡ sooner a (sooner b d) → t ≡ sooner e f → r ≡ sooner q t → r ≡ told (all_breaks names s)
 of_all names s r q t a b d e f h k l m o u v w =
-    let three : List Broken = flat_map (breaks names) (things_of names s) ++ (breaks_in names s ++ breaks_used s) in
+    let three : List Broken = flat_map (breaks names) (things_of names s) ++ (breaks_in names s ++ breaks_used s.items) in
     w ∙ ap (λ x. sooner x t) (of_three names s q a b d h k l u)
     ∙ ap (sooner (told three)) (v ∙ ap (λ x. sooner x f) m ∙ ap (sooner (told (breaks_nesting s))) o ∙ sym (told_append (breaks_nesting s) (breaks_parents names s)))
     ∙ sym (told_append three (breaks_nesting s ++ breaks_parents names s))

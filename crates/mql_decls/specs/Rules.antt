@@ -10,7 +10,7 @@ use Rattle.mql_names.specs.Things.{things_of}
 use Rattle.mql_names.specs.Rules.{breaks}
 use Rattle.mql_plain.specs.Plain.{first_off}
 use Rattle.mql_sizes.specs.Sizes.{breaks_in}
-use Rattle.mql_bodies.specs.Bodies.{breaks_used}
+use Rattle.mql_typing.specs.Sources.{breaks_used}
 use Rattle.mql_nesting.specs.Nesting.{breaks_nesting}
 use Rattle.mql_parents.specs.Parents.{breaks_parents}
 use Rattle.mql_decls.specs.declared.fault.Refusal.{Refusal}
@@ -20,7 +20,7 @@ use Rattle.mql_decls.specs.declared.fault.Refusal.TheVariants as refusal
 -- and rules 3, 4 and 5
 abbrev pub all_breaks : Names → Syntax → List Broken
 all_breaks names s =
-    (flat_map (breaks names) (things_of names s) ++ (breaks_in names s ++ breaks_used s))
+    (flat_map (breaks names) (things_of names s) ++ (breaks_in names s ++ breaks_used s.items))
     ++ (breaks_nesting s ++ breaks_parents names s)
 
 unfoldable pub first_broken : Syntax → Option Broken

@@ -7,13 +7,13 @@ ghost use Rattle.mql_decls.specs.Rules as rules;
 
 use crate::fault::Refusal;
 use fx8::OutOfMemory;
-use mql_bodies::bodies_told;
 use mql_names::{Broken, Meanings, meanings_of, sooner, told_with};
 use mql_nesting::nesting_told;
 use mql_parents::parents_told;
 use mql_plain::first_off;
 use mql_sizes::{EnumMembers, Values, enumerations_of, enumerations_told, sizes_told};
 use mql_syntax::Syntax;
+use mql_typing::bodies_told;
 use std::alloc::Global;
 
 /// What is told of enumerations and sizes of arrays.

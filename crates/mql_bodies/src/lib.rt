@@ -1,6 +1,0 @@
-//! Functions that are used and have no body.
-#![tactic(auto)]
-
-mod body;
-
-pub use body::bodies_told;
