@@ -31,8 +31,9 @@ use Rattle.tester_cli.proofs.OneReport.{reports_once}
 use Rattle.tester_sources.specs.Reading.{Tokens, program_plan, ReadInTurn, OneAnswer}
 use Rattle.tester_sources.specs.Judging.{tree_plan, OneTree}
 use Rattle.tester_sources.proofs.SourceLemmas.{read_leads}
-use Rattle.tester_sources.proofs.JudgeLemmas.{program_lead, tree_leads, form_leads, tree_refused, form_refused, program_one, tree_one, with_program_one, declarations_lead, declarations_are_refused, with_declarations_one}
-use Rattle.tester_sources.specs.Declarations.{declarations_refused, DeclarationsRefused}
+use Rattle.tester_sources.proofs.JudgeLemmas.{program_lead, tree_leads, form_leads, tree_refused, form_refused, program_one, tree_one, with_program_one, rules_lead, rules_refuse, with_rules_one}
+use Rattle.tester_sources.specs.Rules.{RulesRefused}
+use Rattle.tester_sources.specs.Rules as rules
 use Rattle.mql_source.specs.Limits.{most_files}
 
 -- over files that have one answer of preprocessing, tokens that have one of the parser, and sources whose meaning is a talk with the world
@@ -59,7 +60,7 @@ module _ (one : OneAnswer) (alone : OneTree) (talks : MeansTalks) where
   check_one : (entry : List ℕ) → OneEnd (check_plan entry)
   check_one entry =
       program_one one entry (tree_plan entry (check_tree entry))
-      (λ sources tokens. tree_one alone entry sources tokens (check_tree entry) (λ tree. with_declarations_one entry sources tokens (Ends (says (codes "ok" ++ 10 ∷ []))) (said_one (codes "ok" ++ 10 ∷ [])) (declarations_refused tokens tree)))
+      (λ sources tokens. tree_one alone entry sources tokens (check_tree entry) (λ tree. with_rules_one entry sources tokens (Ends (says (codes "ok" ++ 10 ∷ []))) (said_one (codes "ok" ++ 10 ∷ [])) (rules.program_refused sources tokens tree)))
 
   with_one_one : (command : Command) (name : List ℕ) → OneEnd (with_one command name)
   with_one_one Quick name = refuses_one (Usage 3)
@@ -117,21 +118,21 @@ quick_leads expert bars sources tokens told code p turns few makes =
     leads_on (quick_plan expert bars) (quick_rest expert bars sources tokens) (quick_bars bars p.checked) told (read_leads expert told sources tokens (quick_rest expert bars) turns few makes)
     (program_leads expert bars sources tokens p.tree p.checked told p.parses p.means)
 
--- what comes behind the declarations
-pub check_leads : (entry : List ℕ) (sources : List Source) (tokens : Tokens) (tree : Tree) (told : Option Contents) → Parsing tokens (Ok tree) → declarations_refused tokens tree ≡ None → Leads (tree_plan entry (check_tree entry) sources tokens) (Ends (says (codes "ok" ++ 10 ∷ []))) told
+-- what comes behind the rules
+pub check_leads : (entry : List ℕ) (sources : List Source) (tokens : Tokens) (tree : Tree) (told : Option Contents) → Parsing tokens (Ok tree) → rules.program_refused sources tokens tree ≡ None → Leads (tree_plan entry (check_tree entry) sources tokens) (Ends (says (codes "ok" ++ 10 ∷ []))) told
 check_leads entry sources tokens tree told parses declared =
-    leads_on (tree_plan entry (check_tree entry) sources tokens) (check_tree entry sources tokens tree) (Ends (says (codes "ok" ++ 10 ∷ []))) told (tree_leads entry sources tokens tree (check_tree entry) told parses) (declarations_lead entry sources tokens tree (Ends (says (codes "ok" ++ 10 ∷ []))) told declared)
+    leads_on (tree_plan entry (check_tree entry) sources tokens) (check_tree entry sources tokens tree) (Ends (says (codes "ok" ++ 10 ∷ []))) told (tree_leads entry sources tokens tree (check_tree entry) told parses) (rules_lead entry sources tokens tree (Ends (says (codes "ok" ++ 10 ∷ []))) told declared)
 
--- `check` writes its text where there is a tree and no rule of declarations is broken
-pub check_given : (entry : List ℕ) (sources : List Source) (tokens : Tokens) (tree : Tree) (told : Option Contents) (text : List ℕ) → WhereTold told (λ held. ReadInTurn entry held sources) → length sources ≤ most_files → Preprocesses entry sources (Ok tokens) → Parsing tokens (Ok tree) → declarations_refused tokens tree ≡ None → text ≡ codes "ok" ++ 10 ∷ [] → WhereTold told (λ held. Gives (check_plan entry) held Done text held)
+-- `check` writes its text where there is a tree and no rule is broken
+pub check_given : (entry : List ℕ) (sources : List Source) (tokens : Tokens) (tree : Tree) (told : Option Contents) (text : List ℕ) → WhereTold told (λ held. ReadInTurn entry held sources) → length sources ≤ most_files → Preprocesses entry sources (Ok tokens) → Parsing tokens (Ok tree) → rules.program_refused sources tokens tree ≡ None → text ≡ codes "ok" ++ 10 ∷ [] → WhereTold told (λ held. Gives (check_plan entry) held Done text held)
 check_given entry sources tokens tree told text turns few makes parses declared says_ok held is =
     (read_leads entry told sources tokens (tree_plan entry (check_tree entry)) turns few makes).gives held is Done text held
     ((check_leads entry sources tokens tree told parses declared).gives held is Done text held (refl, says_ok, refl))
 
 -- and is refused where a rule is
-pub check_refused : (entry : List ℕ) (sources : List Source) (tokens : Tokens) (tree : Tree) (before now : FilesSeen) (s : Status) → Parsing tokens (Ok tree) → DeclarationsRefused entry sources tokens tree s → Refused Never (tree_plan entry (check_tree entry) sources tokens) before now s
+pub check_refused : (entry : List ℕ) (sources : List Source) (tokens : Tokens) (tree : Tree) (before now : FilesSeen) (s : Status) → Parsing tokens (Ok tree) → RulesRefused entry sources tokens tree s → Refused Never (tree_plan entry (check_tree entry) sources tokens) before now s
 check_refused entry sources tokens tree before now s parses h =
-    refused_on Never (tree_plan entry (check_tree entry) sources tokens) (check_tree entry sources tokens tree) before before now s (tree_leads entry sources tokens tree (check_tree entry) before.told parses) (only_read_same before) (declarations_are_refused entry sources tokens tree (Ends (says (codes "ok" ++ 10 ∷ []))) before now s h)
+    refused_on Never (tree_plan entry (check_tree entry) sources tokens) (check_tree entry sources tokens tree) before before now s (tree_leads entry sources tokens tree (check_tree entry) before.told parses) (only_read_same before) (rules_refuse entry sources tokens tree (Ends (says (codes "ok" ++ 10 ∷ []))) before now s h)
 
 -- a refusal behind the program
 pub quick_refused : (expert bars : List ℕ) (sources : List Source) (tokens : Tokens) (before mid now : FilesSeen) (s : Status) (code : Code) (p : IsProgramOf tokens code) → WhereTold before.told (λ held. ReadInTurn expert held sources) → length sources ≤ most_files → Preprocesses expert sources (Ok tokens) → OnlyRead before mid → Refused Never (quick_bars bars p.checked) mid now s → Refused Never (quick_plan expert bars) before now s

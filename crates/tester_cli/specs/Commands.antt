@@ -19,7 +19,7 @@ use Rattle.mql_level.specs.Level.{program}
 use Rattle.mql_preproc.specs.declared.source.Source.{Source}
 use Rattle.tester_sources.specs.Reading.{Tokens, program_plan}
 use Rattle.tester_sources.specs.Judging.{tree_plan, with_program}
-use Rattle.tester_sources.specs.Declarations.{with_declarations, declarations_refused}
+use Rattle.tester_sources.specs.Rules.{with_rules, program_refused}
 use Rattle.tester_market.specs.Reading.{price_limit}
 use Rattle.tester_market.specs.Quotes.{quotes_plan}
 use Rattle.tester_cli.specs.Pass.{Passes}
@@ -66,7 +66,7 @@ says words held status text after = (status ≡ Done) × (text ≡ words) × (af
 -- `check SOURCE`: the stages that are built so far find no fault
 abbrev pub check_tree : List ℕ → List Source → Tokens → Tree → Plan
 check_tree entry sources tokens tree =
-    with_declarations entry sources tokens (Ends (says (codes "ok" ++ 10 ∷ []))) (declarations_refused tokens tree)
+    with_rules entry sources tokens (Ends (says (codes "ok" ++ 10 ∷ []))) (program_refused sources tokens tree)
 
 abbrev pub check_plan : List ℕ → Plan
 check_plan entry = program_plan entry (tree_plan entry (check_tree entry))

@@ -10,7 +10,7 @@ use fx8::Text8;
 use std::alloc::Global;
 use tester_answer::Status;
 use tester_io::Files;
-use tester_sources::{judge_declarations, judge_tree, read_sources};
+use tester_sources::{judge_rules, judge_tree, read_sources};
 
 /// What is written of a source in which no stage so far finds a fault.
 const OK: [u8; 3] = *b"ok\n";
@@ -25,7 +25,7 @@ pub fn check<F: Files>(alloc: Global, entry: &str, files: &mut F) -> Result<Text
     let name = named(alloc, entry)?;
     let (sources, tokens) = read_sources(alloc, &name, files)?;
     let tree = judge_tree(alloc, &name, &sources, &tokens)?;
-    judge_declarations(alloc, &name, &sources, &tokens, &tree)?;
+    judge_rules(alloc, &name, &sources, &tokens, &tree)?;
     let text = Text8::from_slice(alloc, OK.as_slice())?;
     Ok(text)
 }

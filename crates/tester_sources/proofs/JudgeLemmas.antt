@@ -16,8 +16,8 @@ use Rattle.tester_answer.specs.Answer.{OneEnd}
 use Rattle.tester_answer.proofs.OneEnd.{refuses_one, finds_one}
 use Rattle.tester_sources.specs.Reading.{Tokens, program_plan, OneAnswer}
 use Rattle.tester_sources.specs.Judging.{with_tree, tree_plan, with_program, TreeRefused, FormRefused, OneTree}
-use Rattle.tester_sources.specs.Declarations.{with_declarations, declarations_refused, DeclarationsRefused}
-use Rattle.mql_decls.specs.declared.fault.Refusal.{Refusal}
+use Rattle.tester_sources.specs.Rules.{with_rules, program_refused, RulesRefused}
+use Rattle.tester_sources.specs.declared.rules.ProgramFault.{ProgramFault}
 use Rattle.tester_sources.proofs.SourceLemmas.{sources_lead, sources_one}
 use Rattle.mql_source.specs.Limits.{most_files}
 
@@ -65,25 +65,25 @@ form_refused entry sources tokens tree next before now (status.ReadFault name) h
 form_refused entry sources tokens tree next before now status.WriteFault h = absurd h
 form_refused entry sources tokens tree next before now (status.TooLarge name) h = absurd h
 
--- past the declarations
-pub declarations_lead : (entry : List ℕ) (sources : List Source) (tokens : Tokens) (tree : Tree) (next : Plan) (told : Option Contents) → declarations_refused tokens tree ≡ None → Leads (with_declarations entry sources tokens next (declarations_refused tokens tree)) next told
-declarations_lead entry sources tokens tree next told is = subst (λ r. Leads (with_declarations entry sources tokens next r) next told) (sym is) (leads_same next told)
+-- past the rules
+pub rules_lead : (entry : List ℕ) (sources : List Source) (tokens : Tokens) (tree : Tree) (next : Plan) (told : Option Contents) → program_refused sources tokens tree ≡ None → Leads (with_rules entry sources tokens next (program_refused sources tokens tree)) next told
+rules_lead entry sources tokens tree next told is = subst (λ r. Leads (with_rules entry sources tokens next r) next told) (sym is) (leads_same next told)
 
--- and declarations that break a rule
-pub declarations_are_refused : (entry : List ℕ) (sources : List Source) (tokens : Tokens) (tree : Tree) (next : Plan) (before now : FilesSeen) (s : Status) → DeclarationsRefused entry sources tokens tree s → Refused Never (with_declarations entry sources tokens next (declarations_refused tokens tree)) before now s
-declarations_are_refused entry sources tokens tree next before now (status.Source given) (r, is, same) =
-    λ held i. subst (λ r. Gives (with_declarations entry sources tokens next r) held (status.Source given) [] held) (sym is) (ap status.Source same, refl, refl)
-declarations_are_refused entry sources tokens tree next before now status.OutOfMemory h = tt
-declarations_are_refused entry sources tokens tree next before now status.Done h = absurd h
-declarations_are_refused entry sources tokens tree next before now (status.Usage rule) h = absurd h
-declarations_are_refused entry sources tokens tree next before now (status.Settings rule key) h = absurd h
-declarations_are_refused entry sources tokens tree next before now (status.Prices file row rule) h = absurd h
-declarations_are_refused entry sources tokens tree next before now (status.CodeFile rule place) h = absurd h
-declarations_are_refused entry sources tokens tree next before now (status.Grid rule input) h = absurd h
-declarations_are_refused entry sources tokens tree next before now (status.Absent name) h = absurd h
-declarations_are_refused entry sources tokens tree next before now (status.ReadFault name) h = absurd h
-declarations_are_refused entry sources tokens tree next before now status.WriteFault h = absurd h
-declarations_are_refused entry sources tokens tree next before now (status.TooLarge name) h = absurd h
+-- and a program that breaks one
+pub rules_refuse : (entry : List ℕ) (sources : List Source) (tokens : Tokens) (tree : Tree) (next : Plan) (before now : FilesSeen) (s : Status) → RulesRefused entry sources tokens tree s → Refused Never (with_rules entry sources tokens next (program_refused sources tokens tree)) before now s
+rules_refuse entry sources tokens tree next before now (status.Source given) (r, is, same) =
+    λ held i. subst (λ r. Gives (with_rules entry sources tokens next r) held (status.Source given) [] held) (sym is) (ap status.Source same, refl, refl)
+rules_refuse entry sources tokens tree next before now status.OutOfMemory h = tt
+rules_refuse entry sources tokens tree next before now status.Done h = absurd h
+rules_refuse entry sources tokens tree next before now (status.Usage rule) h = absurd h
+rules_refuse entry sources tokens tree next before now (status.Settings rule key) h = absurd h
+rules_refuse entry sources tokens tree next before now (status.Prices file row rule) h = absurd h
+rules_refuse entry sources tokens tree next before now (status.CodeFile rule place) h = absurd h
+rules_refuse entry sources tokens tree next before now (status.Grid rule input) h = absurd h
+rules_refuse entry sources tokens tree next before now (status.Absent name) h = absurd h
+rules_refuse entry sources tokens tree next before now (status.ReadFault name) h = absurd h
+rules_refuse entry sources tokens tree next before now status.WriteFault h = absurd h
+rules_refuse entry sources tokens tree next before now (status.TooLarge name) h = absurd h
 
 -- one status, where each tree gives one
 with_tree_one : (entry : List ℕ) (sources : List Source) (tokens : Tokens) (next : Tree → Plan) → ((tree : Tree) → OneEnd (next tree)) → (answer : Result Tree ParseFault) → OneEnd (with_tree entry sources tokens next answer)
@@ -94,9 +94,9 @@ pub with_program_one : (entry : List ℕ) (sources : List Source) (tokens : Toke
 with_program_one entry sources tokens next each (Ok checked) = each checked
 with_program_one entry sources tokens next each (Err place) = refuses_one _
 
-pub with_declarations_one : (entry : List ℕ) (sources : List Source) (tokens : Tokens) (next : Plan) → OneEnd next → (answer : Option Refusal) → OneEnd (with_declarations entry sources tokens next answer)
-with_declarations_one entry sources tokens next each None = each
-with_declarations_one entry sources tokens next each (Some r) = refuses_one _
+pub with_rules_one : (entry : List ℕ) (sources : List Source) (tokens : Tokens) (next : Plan) → OneEnd next → (answer : Option ProgramFault) → OneEnd (with_rules entry sources tokens next answer)
+with_rules_one entry sources tokens next each None = each
+with_rules_one entry sources tokens next each (Some r) = refuses_one _
 
 pub tree_one : OneTree → (entry : List ℕ) (sources : List Source) (tokens : Tokens) (next : List Source → Tokens → Tree → Plan) → ((tree : Tree) → OneEnd (next sources tokens tree)) → OneEnd (tree_plan entry next sources tokens)
 tree_one alone entry sources tokens next each = finds_one (Result Tree ParseFault) (Parsing tokens) (with_tree entry sources tokens (next sources tokens)) (alone tokens) (with_tree_one entry sources tokens (next sources tokens) each)

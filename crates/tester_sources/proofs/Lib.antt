@@ -1,3 +1,3 @@
 pub mod SourceLemmas
 pub mod JudgeLemmas
-mod Declaring
+mod Refusing

@@ -1,4 +1,4 @@
 pub mod Faults
 pub mod Reading
 pub mod Judging
-pub mod Declarations
+pub mod Rules

@@ -31,14 +31,14 @@ pub returns-clause-ready : goal.returns-clause-ready
 returns-clause-ready g c =
     let turns = rw c.in_ok-name.ensures at c.in_ok-sources.ensures.read in
     let makes = rw c.in_ok-name.ensures at c.in_ok-sources.ensures.tokens in
-    check_given c.args.entry.now c.in_ok-sources.sources c.in_ok-sources.tokens c.in_ok-tree.tree (g.F.Files.seen c.args.files.now).told c.in_ok-text.text turns c.in_ok-sources.ensures.few makes c.in_ok-tree.ensures.tree c.in_ok-judge_declarations.ensures.declared (c.in_ok-text.ensures ∙ c.as_slice.ensures)
+    check_given c.args.entry.now c.in_ok-sources.sources c.in_ok-sources.tokens c.in_ok-tree.tree (g.F.Files.seen c.args.files.now).told c.in_ok-text.text turns c.in_ok-sources.ensures.few makes c.in_ok-tree.ensures.tree c.in_ok-judge_rules.ensures.kept (c.in_ok-text.ensures ∙ c.as_slice.ensures)
 
-pub returns-in_err-judge_declarations-clause-refused : goal.returns-in_err-judge_declarations-clause-refused
-returns-in_err-judge_declarations-clause-refused g c =
-    let p = err_from_is_err_and c.from_residual-in_err-judge_declarations.result c.from_residual-in_err-judge_declarations.ensures.1 in
+pub returns-in_err-judge_rules-clause-refused : goal.returns-in_err-judge_rules-clause-refused
+returns-in_err-judge_rules-clause-refused g c =
+    let p = err_from_is_err_and c.from_residual-in_err-judge_rules.result c.from_residual-in_err-judge_rules.ensures.1 in
     let turns = rw c.in_ok-name.ensures at c.in_ok-sources.ensures.read in
     let makes = rw c.in_ok-name.ensures at c.in_ok-sources.ensures.tokens in
-    let refused = rw c.in_ok-name.ensures at c.in_err-judge_declarations.ensures.refused in
+    let refused = rw c.in_ok-name.ensures at c.in_err-judge_rules.ensures.refused in
     let now = (g.F.Files.seen c.read_sources.new.files) in
     rw (p.1, p.2)
     (behind_refused c.args.entry.now c.in_ok-sources.sources c.in_ok-sources.tokens (tree_plan c.args.entry.now (check_tree c.args.entry.now)) (g.F.Files.seen c.args.files.now) now now
