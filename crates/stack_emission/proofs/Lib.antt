@@ -1,0 +1,11 @@
+pub mod Kept
+pub mod Rows
+pub mod Writes
+pub mod Emits
+pub mod SwitchRows
+pub mod StatementRows
+pub mod StatementEmits
+pub mod SwitchEmits
+pub mod FunctionEmits
+pub mod Whole
+pub mod Tests
