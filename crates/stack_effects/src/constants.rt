@@ -6,18 +6,18 @@ ghost use Rattle.store_cells.specs.Changes.{Gives};
 use fx8::{ItemList, OutOfMemory};
 use mql_mean::Value;
 use mql_meaning::Store;
-use stack_operators::string;
 use std::alloc::Global;
 use store_cells::Fault;
 use store_frames::Operand;
 use store_places::copied_place;
+use store_values::text;
 
 /// The value of a constant; a string of more than 65,536 units is an error at the line in force.
 pub fn constant(alloc: Global, value: &Value, store: &Store) -> Result<Value, Fault>
     ensures { Gives (literal value.now) result store.now }
 {
     match value {
-        Value::Str(units) => string(ItemList::from_slice(alloc, units.as_slice())?, store),
+        Value::Str(units) => text(ItemList::from_slice(alloc, units.as_slice())?, store),
         _ => Ok(value.copy(alloc)?),
     }
 }

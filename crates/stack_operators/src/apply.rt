@@ -12,7 +12,6 @@ ghost use Rattle.store_frames.specs.Operands.{shown};
 ghost use Rattle.stack_operators.specs.Answers.{answered};
 
 use crate::casts::cast;
-use crate::conversions::convert;
 use crate::updates::{bump_at, keep, update};
 use crate::values::{binary, unary_of};
 use mql_mean::Value;
@@ -23,6 +22,7 @@ use store_frames::Operand;
 use store_places::{
     at_root, field_place, index, local_place, pointed, pointer_of, read, this_place,
 };
+use store_values::convert;
 
 /// A value as an operand.
 fn valued(answer: Result<Value, Fault>) -> Result<Operand, Fault>

@@ -4,7 +4,6 @@
 mod apply;
 mod casts;
 mod comparisons;
-mod conversions;
 mod doubles;
 mod numbers;
 mod parts;
@@ -14,8 +13,5 @@ mod values;
 
 pub use apply::{on_none, on_one, on_two};
 pub use casts::{cast, is_kind};
-pub use conversions::convert;
-pub use parts::sort_of;
-pub use strings::{MOST_UNITS, string};
 pub use updates::{bump_at, keep, update};
 pub use values::{binary, unary_of};

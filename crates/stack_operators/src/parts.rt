@@ -5,7 +5,6 @@ ghost use Rattle.mql_meaning.specs.Places.{number_of, serial_of};
 
 use fx8::{Fix8, Text};
 use mql_mean::Value;
-use mql_meaning::Sort;
 
 /// The number of a value of an integer kind.
 pub(crate) fn number_of(value: &Value) -> Option<i128>
@@ -44,18 +43,5 @@ pub(crate) fn serial_of(value: &Value) -> Option<u64>
     match value {
         Value::Ptr(serial) => Some(*serial),
         _ => None,
-    }
-}
-
-/// The sort of a value; `None` exactly where it is an array or a structure.
-pub fn sort_of(value: &Value) -> Option<Sort>
-    ensures { result ≡ operators.sort_of value.now }
-{
-    match value {
-        Value::Num(kind, _) => Some(Sort::Number(*kind)),
-        Value::Dbl(_) => Some(Sort::Double),
-        Value::Str(_) => Some(Sort::String),
-        Value::Ptr(_) => Some(Sort::Pointer),
-        Value::Arr(_) | Value::Rec(_) => None,
     }
 }

@@ -1,31 +1,16 @@
 //! Operators on strings.
 ghost use Rattle.std.specs.Prelude.{◌≡◌, ◌++◌, pos, IfOk};
-ghost use Rattle.mql_meaning.specs.Operands as operands;
 ghost use Rattle.mql_meaning.specs.Operators as operators;
 ghost use Rattle.mql_meaning.specs.declared.store.Store as stores;
 ghost use Rattle.store_cells.specs.Changes.{Gives};
 
 use crate::comparisons::compare;
 use fx8::{IntOperator, OutOfMemory, Text};
-use mql_mean::{ErrorKind, Value};
+use mql_mean::Value;
 use mql_meaning::Store;
 use native_strings::order;
 use store_cells::Fault;
-use store_places::failed;
-
-/// The longest string, in units.
-pub const MOST_UNITS: u64 = 65_536;
-
-/// A string; one that is longer than 65,536 units is an error at the line in force.
-pub fn string(units: Text, store: &Store) -> Result<Value, Fault>
-    ensures { Gives (operands.text units) result store.now }
-{
-    if units.len() <= MOST_UNITS {
-        Ok(Value::Str(units))
-    } else {
-        Err(Fault::End(failed(ErrorKind::CellsExhausted, store)))
-    }
-}
+use store_values::text;
 
 /// One string behind another.
 fn joined(front: Text, back: Text) -> Result<Text, OutOfMemory>
@@ -61,7 +46,7 @@ pub(crate) fn on_strings(
     ensures { Gives (operators.on_strings operator x y) result store.now }
 {
     match operator {
-        IntOperator::Add => string(joined(x, y)?, store),
+        IntOperator::Add => text(joined(x, y)?, store),
         _ => compare_strings(operator, x.as_slice(), y.as_slice()),
     }
 }

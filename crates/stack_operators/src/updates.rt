@@ -6,8 +6,6 @@ ghost use Rattle.mql_meaning.specs.Operators as operators;
 ghost use Rattle.store_cells.specs.Changes.{Does, Gives};
 ghost use Rattle.stack_operators.specs.Steps.{bumped_from, counted, counts_by, keeps, renewed, stands_first, updated};
 
-use crate::conversions::convert;
-use crate::parts::sort_of;
 use crate::values::binary;
 use fx8::{IntKind, IntOperator};
 use mql_mean::Value;
@@ -15,6 +13,7 @@ use mql_meaning::{Bump, Place, Sort, Store};
 use std::alloc::Global;
 use store_cells::{End, Fault};
 use store_places::{read, write};
+use store_values::{convert, sort_of};
 
 /// The operator of `++` and `--`.
 fn counts_by(bump: Bump) -> IntOperator

@@ -1,3 +1,4 @@
+pub mod Heads
 pub mod Operands
 pub mod Resets
 pub mod Slots

@@ -3,15 +3,17 @@ ghost use Rattle.std.specs.Prelude.{◌≡◌, ◌+◌, ◌-◌, true, map};
 ghost use Rattle.mql_meaning.specs.Changes.{Done};
 ghost use Rattle.mql_meaning.specs.Frames.{enter, enter_by, enter_with, held, leave, made_by};
 ghost use Rattle.store_cells.specs.Changes.{Meets};
+ghost use Rattle.store_frames.specs.Heads.{headed};
 ghost use Rattle.store_frames.specs.Operands.{shown};
 ghost use Rattle.store_frames.specs.Slots.{pushes};
 ghost use Rattle.store_places.specs.Puts.{Counted};
 
+use crate::head::Head;
 use crate::operand::Operand;
 use crate::parameters::{held, slots};
 use fx8::{ItemList, Stack};
 use mql_mean::ErrorKind;
-use mql_meaning::{Class, Frame, Function, Place, Slot, Store};
+use mql_meaning::{Class, Frame, Place, Slot, Store};
 use std::alloc::Global;
 use store_cells::{End, Fault, zeros};
 use store_places::{failed, more_cells};
@@ -41,10 +43,10 @@ pub fn leave(store: &mut Store)
 }
 
 /// The class whose constructor or destructor a function is.
-fn made_by(function: &Function) -> Option<u32>
-    ensures { result ≡ made_by function.now }
+fn made_by(head: Head<'_>) -> Option<u32>
+    ensures { result ≡ made_by (headed head.entry) }
 {
-    if function.makes { function.class } else { None }
+    if head.makes { head.class } else { None }
 }
 
 /// How many cells are in use with those of locals; `None` exactly where they are too many.
@@ -74,16 +76,16 @@ fn push_frame(frame: Frame, cells: u64, store: &mut Store) -> Result<(), Fault>
 fn enter_with(
     alloc: Global,
     classes: &[Class],
-    function: &Function,
+    head: Head<'_>,
     this: Option<Place>,
     operands: Stack<Operand>,
     store: &mut Store,
 ) -> Result<(), Fault>
-    ensures { Meets (enter_with classes.now function.now this (map shown operands))
+    ensures { Meets (enter_with classes.now (headed head.entry) this (map shown operands))
         result store.old store.new }
 {
-    let cells = zeros(alloc, classes, function.locals.as_slice())?;
-    let Some(locals) = slots(alloc, cells, function.lent.as_slice(), operands)? else {
+    let cells = zeros(alloc, classes, head.locals)?;
+    let Some(locals) = slots(alloc, cells, head.lent, operands)? else {
         return Err(Fault::End(End::Stuck));
     };
     let Some(count) = with_locals(store.cells, locals.as_slice()) else {
@@ -92,7 +94,7 @@ fn enter_with(
     let frame = Frame {
         locals,
         this,
-        makes: made_by(function),
+        makes: made_by(head),
         line: 0,
     };
     push_frame(frame, count, store)
@@ -102,16 +104,17 @@ fn enter_with(
 fn enter_by(
     alloc: Global,
     classes: &[Class],
-    function: &Function,
+    head: Head<'_>,
     operands: Stack<Operand>,
     store: &mut Store,
 ) -> Result<(), Fault>
-    ensures { Meets (enter_by true classes.now function.now (map shown operands)) result store.old store.new }
+    ensures { Meets (enter_by true classes.now (headed head.entry) (map shown operands))
+        result store.old store.new }
 {
     let mut rest = operands;
     match rest.pop() {
         Some(Operand::Place(place)) => {
-            enter_with(alloc, classes, function, Some(place), rest, store)
+            enter_with(alloc, classes, head, Some(place), rest, store)
         }
         _ => Err(Fault::End(End::Stuck)),
     }
@@ -122,18 +125,19 @@ fn enter_by(
 pub fn enter(
     alloc: Global,
     classes: &[Class],
-    function: &Function,
+    head: Head<'_>,
     operands: ItemList<Operand>,
     store: &mut Store,
 ) -> Result<(), Fault>
-    ensures { Meets (enter classes.now function.now (map shown operands)) result store.old store.new }
+    ensures { Meets (enter classes.now (headed head.entry) (map shown operands))
+        result store.old store.new }
 {
     if store.frames.len() >= MOST_FRAMES {
         return Err(Fault::End(failed(ErrorKind::StackOverflow, store)));
     }
     let operands = Stack::of_list(operands);
-    match function.class {
-        Some(_) => enter_by(alloc, classes, function, operands, store),
-        None => enter_with(alloc, classes, function, None, operands, store),
+    match head.class {
+        Some(_) => enter_by(alloc, classes, head, operands, store),
+        None => enter_with(alloc, classes, head, None, operands, store),
     }
 }

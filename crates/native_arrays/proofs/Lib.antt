@@ -1,0 +1,9 @@
+pub mod Ranges
+pub mod More
+pub mod Rows
+pub mod Parts
+pub mod Listed
+pub mod Bettered
+pub mod Rising
+pub mod Growing
+pub mod Passing

@@ -1,0 +1,4 @@
+pub mod Lists
+pub mod Extremes
+pub mod Orders
+pub mod Runs

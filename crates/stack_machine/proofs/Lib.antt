@@ -1,0 +1,4 @@
+pub mod Begins
+pub mod Falls
+pub mod Lands
+pub mod Turns
