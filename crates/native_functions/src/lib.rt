@@ -1,0 +1,18 @@
+//! The native functions of strings and of numbers, over arguments that are lent.
+#![tactic(auto)]
+
+mod number_parts;
+mod numbers;
+mod string_parts;
+mod strings;
+mod values;
+
+pub use numbers::{
+    math_abs, math_ceil, math_floor, math_is_valid_number, math_max, math_min, math_mod, math_pow,
+    math_round, math_sqrt, normalize_double,
+};
+pub use strings::{
+    string_compare, string_find, string_get_character, string_len, string_replace,
+    string_set_character, string_substr, string_to_lower, string_to_upper, string_trim_left,
+    string_trim_right,
+};
