@@ -1,10 +1,12 @@
-//! The native functions of strings and of numbers, over arguments that are lent.
+//! The native functions of strings, of numbers and of conversions, over arguments that are lent.
 #![tactic(auto)]
 
 mod number_parts;
 mod numbers;
 mod string_parts;
 mod strings;
+mod text_parts;
+mod texts;
 mod values;
 
 pub use numbers::{
@@ -15,4 +17,8 @@ pub use strings::{
     string_compare, string_find, string_get_character, string_len, string_replace,
     string_set_character, string_substr, string_to_lower, string_to_upper, string_trim_left,
     string_trim_right,
+};
+pub use texts::{
+    char_to_string, double_to_string, integer_to_string, short_to_string, string_to_double,
+    string_to_integer,
 };
