@@ -21,7 +21,8 @@ use Rattle.natives.specs.declared.native.Native.{Native}
 use Rattle.stack_machine.specs.declared.state.Back as code_back
 use Rattle.stack_machine.specs.declared.state.State.{State}
 use Rattle.stack_machine.specs.Operands.{tested}
-use Rattle.stack_machine.specs.Paced.{Paced, Nearer, jumps_to, total, behind, behind_all, is_step, rank, left}
+use Rattle.stack_code.specs.Paced.{Paced, jumps_to}
+use Rattle.stack_machine.specs.Pace.{Nearer, total, behind, behind_all, is_step, rank, left}
 use Rattle.stack_machine.specs.Steps as steps
 use Rattle.stack_machine.specs.Steps.{Acts, Follows, on}
 

@@ -1,4 +1,4 @@
 pub mod Ends
 pub mod Operands
-pub mod Paced
+pub mod Pace
 pub mod Steps

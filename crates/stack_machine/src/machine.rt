@@ -1,7 +1,7 @@
 //! The machine.
 ghost use Rattle.std.specs.Prelude.{◌≡◌, IfOk};
 ghost use Rattle.mql_meaning.specs.Frames.{opening};
-ghost use Rattle.stack_machine.specs.Paced.{Paced};
+ghost use Rattle.stack_code.specs.Paced.{Paced};
 ghost use Rattle.stack_machine.specs.Steps.{Ends};
 
 use crate::ends::{End, Fault};

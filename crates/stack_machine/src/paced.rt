@@ -1,13 +1,14 @@
 //! Code that spends steps.
 ghost use Rattle.std.specs.Prelude.{◌≡◌, ◌↔◌, ◌≤◌, ℕ, IsTrue, Some, slice_get};
-ghost use Rattle.stack_machine.specs.Paced as paced;
-ghost use Rattle.stack_machine.specs.Paced.{Paced, PacedAt, PacedFunction};
+ghost use Rattle.stack_code.specs.Paced as paced;
+ghost use Rattle.stack_code.specs.Paced.{Paced, PacedAt, PacedFunction};
+ghost use Rattle.stack_machine.specs.Pace as pace;
 
 use stack_code::{Code, FunctionCode, Instruction};
 
 /// Whether the instruction at a place spends a step.
 fn is_step(function: &FunctionCode, place: u64) -> bool
-    ensures { result ≡ paced.is_step (slice_get function.now.instructions place) }
+    ensures { result ≡ pace.is_step (slice_get function.now.instructions place) }
 {
     match function.instructions.at(place) {
         Some(Instruction::Step) => true,

@@ -1,7 +1,7 @@
 //! Runs.
 ghost use Rattle.std.specs.Prelude.{◌≡◌, IfOk, []};
 ghost use Rattle.stack_machine.specs.Ends.{as_ended};
-ghost use Rattle.stack_machine.specs.Paced.{Paced};
+ghost use Rattle.stack_code.specs.Paced.{Paced};
 ghost use Rattle.stack_machine.specs.Steps.{Run, on, over};
 
 use crate::ends::{End, Fault};

@@ -1,5 +1,6 @@
 //! One instruction.
-ghost use Rattle.stack_machine.specs.Paced.{Nearer, Paced};
+ghost use Rattle.stack_code.specs.Paced.{Paced};
+ghost use Rattle.stack_machine.specs.Pace.{Nearer};
 ghost use Rattle.stack_machine.specs.Steps.{Steps};
 
 use crate::asks::ask;

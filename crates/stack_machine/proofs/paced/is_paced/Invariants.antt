@@ -1,7 +1,7 @@
 use Rattle.std.proofs.Common.{◌≡◌, ℕ, ◌<◌, Some}
 use Rattle.stack_code.specs.declared.code.FunctionCode.{FunctionCode}
 use Rattle.stack_code.specs.Machine.{function_at}
-use Rattle.stack_machine.specs.Paced.{PacedFunction}
+use Rattle.stack_code.specs.Paced.{PacedFunction}
 use Rattle.stack_machine.proofs.paced.is_paced.Given as goal
 
 abbrev pub invariant-loop-function : goal.invariant-loop-function

@@ -1,5 +1,5 @@
 use Rattle.std.proofs.Common.{ℕ, ◌<◌}
-use Rattle.stack_machine.specs.Paced.{PacedAt}
+use Rattle.stack_code.specs.Paced.{PacedAt}
 use Rattle.stack_machine.proofs.paced.is_paced_function.Given as goal
 
 abbrev pub invariant-loop-place : goal.invariant-loop-place

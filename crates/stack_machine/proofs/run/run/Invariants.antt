@@ -1,5 +1,5 @@
 use Rattle.std.specs.Prelude.{[]}
-use Rattle.stack_machine.specs.Paced.{left}
+use Rattle.stack_machine.specs.Pace.{left}
 use Rattle.stack_machine.specs.Steps.{Run, on}
 use Rattle.stack_machine.proofs.run.run.Given as goal
 
