@@ -19,6 +19,7 @@ use Rattle.tester_sources.specs.Judging.{with_tree, tree_plan, with_program, Tre
 use Rattle.tester_sources.specs.Rules.{with_rules, program_refused, RulesRefused}
 use Rattle.tester_sources.specs.declared.rules.ProgramFault.{ProgramFault}
 use Rattle.tester_sources.proofs.SourceLemmas.{sources_lead, sources_one}
+use Rattle.tester_sources.proofs.Refusing.{is_broken}
 use Rattle.mql_source.specs.Limits.{most_files}
 
 -- what follows the tokens may be anything
@@ -71,8 +72,8 @@ rules_lead entry sources tokens tree next told is = subst (λ r. Leads (with_rul
 
 -- and a program that breaks one
 pub rules_refuse : (entry : List ℕ) (sources : List Source) (tokens : Tokens) (tree : Tree) (next : Plan) (before now : FilesSeen) (s : Status) → RulesRefused entry sources tokens tree s → Refused Never (with_rules entry sources tokens next (program_refused sources tokens tree)) before now s
-rules_refuse entry sources tokens tree next before now (status.Source given) (r, is, same) =
-    λ held i. subst (λ r. Gives (with_rules entry sources tokens next r) held (status.Source given) [] held) (sym is) (ap status.Source same, refl, refl)
+rules_refuse entry sources tokens tree next before now (status.Source given) (f, is, same) =
+    λ held i. subst (λ r. Gives (with_rules entry sources tokens next r) held (status.Source given) [] held) (sym (is_broken sources tokens tree f is)) (ap status.Source same, refl, refl)
 rules_refuse entry sources tokens tree next before now status.OutOfMemory h = tt
 rules_refuse entry sources tokens tree next before now status.Done h = absurd h
 rules_refuse entry sources tokens tree next before now (status.Usage rule) h = absurd h

@@ -1,5 +1,5 @@
 -- Stages 5 and 6: the declarations and the types of a program are judged. Own.
-use Rattle.std.specs.Prelude.{◌≡◌, Option, Some, None, Result, Ok, Err, List, map, ℕ}
+use Rattle.std.specs.Prelude.{◌≡◌, Option, Some, None, Result, Ok, Err, List, [], map, ℕ}
 use Rattle.mql_tree.specs.declared.token.Tree.{Tree}
 use Rattle.mql_tree.specs.declared.text.TextFault.{TextFault}
 use Rattle.mql_tree.specs.Text.{text_of}
@@ -23,9 +23,16 @@ use Rattle.tester_sources.specs.declared.rules.ProgramFault.TheVariants.{Declara
 use Rattle.tester_sources.specs.Reading.{Tokens}
 use Rattle.tester_sources.specs.Judging.{span_at, placed}
 
--- the syntax of a tree, which each tree of the parser has
-abbrev pub syntax_of : Tokens → Tree → Option Syntax
-syntax_of tokens tree = program tokens (classes_of tokens) 200 tree
+-- the syntax of a tree: each tree of the parser has one, and where there is none it has no items
+abbrev pub no_items : Syntax
+no_items = record { place = record { at = 0; first = 0 }; nodes = 0; items = [] }
+
+abbrev pub syntax_or : Option Syntax → Syntax
+syntax_or None = no_items
+syntax_or (Some s) = s
+
+unfoldable pub syntax_of : Tokens → Tree → Syntax
+syntax_of tokens tree = syntax_or (program tokens (classes_of tokens) 200 tree)
 
 -- the name of a file as a text; bytes that are none stand each for a unit
 abbrev pub text_or : List ℕ → Result (List ℕ) TextFault → List ℕ
@@ -38,32 +45,32 @@ file_text name = text_or name (text_of name)
 abbrev pub file_texts : List Source → List (List ℕ)
 file_texts sources = map (λ (s : Source). file_text s.name) sources
 
--- the broken rule of types that is told, if there is any
-abbrev pub told_of : Result Checked Broken → Option Broken
-told_of (Ok checked) = None
-told_of (Err broken) = Some broken
+-- the typed program of a syntax, or the broken rule of types that is told
+unfoldable pub syntax_typed : List Source → Tokens → Syntax → Result Checked Broken
+syntax_typed sources tokens s = check (given_of s.items tokens (file_texts sources)) s
 
-unfoldable pub types_refused : List Source → Tokens → Syntax → Option Broken
-types_refused sources tokens s = told_of (check (given_of s.items tokens (file_texts sources)) s)
+-- the typed program, or the rule that it breaks: of its form and its declarations, else of its types
+abbrev pub by_types : Result Checked Broken → Result Checked ProgramFault
+by_types (Ok checked) = Ok checked
+by_types (Err broken) = Err (Types broken)
 
--- the rule that a program breaks, if there is any: of its form and its declarations, else of its types
-abbrev pub of_types : Option Broken → Option ProgramFault
-of_types None = None
-of_types (Some broken) = Some (Types broken)
+abbrev pub by_rules : Option Refusal → Result Checked Broken → Result Checked ProgramFault
+by_rules (Some r) typed = Err (Declarations r)
+by_rules None typed = by_types typed
 
-abbrev pub else_of_types : Option Refusal → Option Broken → Option ProgramFault
-else_of_types (Some r) broken = Some (Declarations r)
-else_of_types None broken = of_types broken
+abbrev pub syntax_judged : List Source → Tokens → Syntax → Result Checked ProgramFault
+syntax_judged sources tokens s = by_rules (refused s) (syntax_typed sources tokens s)
 
-abbrev pub rules_broken : List Source → Tokens → Syntax → Option ProgramFault
-rules_broken sources tokens s = else_of_types (refused s) (types_refused sources tokens s)
+unfoldable pub program_judged : List Source → Tokens → Tree → Result Checked ProgramFault
+program_judged sources tokens tree = syntax_judged sources tokens (syntax_of tokens tree)
 
-abbrev pub refused_by : List Source → Tokens → Option Syntax → Option ProgramFault
-refused_by sources tokens None = None
-refused_by sources tokens (Some s) = rules_broken sources tokens s
+-- why it is refused, if it is
+abbrev pub fault_in : Result Checked ProgramFault → Option ProgramFault
+fault_in (Ok checked) = None
+fault_in (Err f) = Some f
 
 unfoldable pub program_refused : List Source → Tokens → Tree → Option ProgramFault
-program_refused sources tokens tree = refused_by sources tokens (syntax_of tokens tree)
+program_refused sources tokens tree = fault_in (program_judged sources tokens tree)
 
 -- a node that is not of the form that is built so far breaks stage 7, rule 1; else the rules of stage 5, the
 -- declarations, and of stage 6, the types (MQL5 Reference, Language Basics), each at the first token of its node
@@ -83,7 +90,7 @@ with_rules entry sources tokens next (Some f) =
 -- the status that tells why a program is refused
 abbrev pub RulesRefused : List ℕ → List Source → Tokens → Tree → Status → Type 0
 RulesRefused entry sources tokens tree (status.Source given) =
-    (f : ProgramFault) × (program_refused sources tokens tree ≡ Some f)
+    (f : ProgramFault) × (program_judged sources tokens tree ≡ Err f)
     × (given ≡ program_fault entry sources tokens f)
 RulesRefused entry sources tokens tree status.OutOfMemory = Unit {0}
 RulesRefused entry sources tokens tree _ = ⊥

@@ -17,8 +17,8 @@ use mql_tree::{Span, Tokens, Tree};
 use std::alloc::Global;
 use tester_answer::{SourceFault, Status};
 
-// The place of a token, if it is there.
-pub(crate) fn span_at(tokens: &Tokens, place: u64) -> Option<Span>
+/// The place of a token, if it is there.
+pub fn span_at(tokens: &Tokens, place: u64) -> Option<Span>
     ensures { result ≡ span_at tokens.now place }
 {
     match tokens.at(place) {
@@ -54,8 +54,8 @@ fn span_among(tokens: &Tokens, place: Option<u32>) -> Option<Span>
     }
 }
 
-// The status of a rule of a stage that is broken at a place, else at line 1 of the entry.
-pub(crate) fn placed(
+/// The status of a rule of a stage that is broken at a place, else at line 1 of the entry.
+pub fn placed(
     alloc: Global,
     entry: &Text8,
     sources: &Sources,

@@ -3,7 +3,7 @@ ghost use Rattle.std.specs.Prelude.{◌≡◌, ◌≤◌, Ok, None, length, IfOk
 ghost use Rattle.mql_parse.specs.Parsed.{IsParsed};
 ghost use Rattle.mql_source.specs.Limits.{most_tokens};
 ghost use Rattle.tester_sources.specs.Faults.{TellsFault};
-ghost use Rattle.tester_sources.specs.Rules.{file_text, file_texts, told_of, types_refused, rules_broken, program_fault, program_refused, RulesRefused};
+ghost use Rattle.tester_sources.specs.Rules.{file_text, file_texts, syntax_of, syntax_typed, by_types, syntax_judged, program_judged, program_fault, program_refused, RulesRefused};
 
 use crate::judging::{placed, span_at};
 use fx8::{ItemList, OutOfMemory, Text, Text8};
@@ -27,8 +27,8 @@ pub enum ProgramFault {
     Types(Broken),
 }
 
-// The status of a rule that a program breaks.
-fn fault_status(
+/// The status of a rule that a program breaks, at the first token of its node.
+pub fn program_status(
     alloc: Global,
     entry: &Text8,
     sources: &Sources,
@@ -87,52 +87,78 @@ fn file_texts(alloc: Global, sources: &Sources) -> Result<ItemList<Text>, OutOfM
     Ok(texts)
 }
 
-// The broken rule that is told of a source, if it is not typed.
-fn told_of(typed: Result<Checked, Broken>) -> Option<Broken>
-    ensures { result ≡ told_of typed }
+// The typed program of a syntax, or the broken rule of types that is told.
+#[tactic(auto, unfolding(crate::specs::Rules::syntax_typed))]
+fn typed(
+    alloc: Global,
+    sources: &Sources,
+    tokens: &Tokens,
+    syntax: &Syntax,
+) -> Result<Result<Checked, Broken>, OutOfMemory>
+    ensures { IfOk result (λ r. r ≡ syntax_typed sources.now tokens.now syntax.now) }
+{
+    let files = file_texts(alloc, sources)?;
+    check_source(alloc, syntax, tokens, &files)
+}
+
+// The typed program, or why it is refused.
+fn by_types(typed: Result<Checked, Broken>) -> Result<Checked, ProgramFault>
+    ensures { result ≡ by_types typed }
 {
     match typed {
-        Ok(_) => None,
-        Err(broken) => Some(broken),
+        Ok(checked) => Ok(checked),
+        Err(broken) => Err(ProgramFault::Types(broken)),
     }
 }
 
-// The broken rule of types that is told, if there is any.
-#[tactic(auto, unfolding(crate::specs::Rules::types_refused))]
-fn types_told(
+// The typed program, or the rule that it breaks: of its declarations, else of its types.
+fn judged(
     alloc: Global,
     sources: &Sources,
     tokens: &Tokens,
     syntax: &Syntax,
-) -> Result<Option<Broken>, OutOfMemory>
-    ensures { IfOk result (λ b. b ≡ types_refused sources.now tokens.now syntax.now) }
-{
-    let files = file_texts(alloc, sources)?;
-    let typed = check_source(alloc, syntax, tokens, &files)?;
-    Ok(told_of(typed))
-}
-
-// The rule that a program breaks, if there is any: of its declarations, else of its types.
-fn broken_rule(
-    alloc: Global,
-    sources: &Sources,
-    tokens: &Tokens,
-    syntax: &Syntax,
-) -> Result<Option<ProgramFault>, OutOfMemory>
-    ensures { IfOk result (λ f. f ≡ rules_broken sources.now tokens.now syntax.now) }
+) -> Result<Result<Checked, ProgramFault>, OutOfMemory>
+    ensures { IfOk result (λ r. r ≡ syntax_judged sources.now tokens.now syntax.now) }
 {
     match expand(alloc, syntax) {
         Err(DeclFault::OutOfMemory) => Err(OutOfMemory),
-        Err(DeclFault::Refused(refusal)) => Ok(Some(ProgramFault::Declarations(refusal))),
-        Ok(_) => match types_told(alloc, sources, tokens, syntax)? {
-            Some(broken) => Ok(Some(ProgramFault::Types(broken))),
-            None => Ok(None),
-        },
+        Err(DeclFault::Refused(refusal)) => Ok(Err(ProgramFault::Declarations(refusal))),
+        Ok(_) => {
+            let typed = typed(alloc, sources, tokens, syntax)?;
+            Ok(by_types(typed))
+        }
+    }
+}
+
+/// The syntax of a tree and the typed program that it means, where the program is of the form that is built so far
+/// and breaks no rule of declarations and of types; else the status of stage 7, 5 or 6 that refuses it.
+pub fn judge_program_rules(
+    alloc: Global,
+    entry: &Text8,
+    sources: &Sources,
+    tokens: &Tokens,
+    tree: &Tree,
+) -> Result<(Syntax, Checked), Status>
+    requires few { length tokens.now ≤ most_tokens }
+    requires parsed { IsParsed tokens.now (Ok tree.now) }
+    ensures syntax { IfOk result (λ r. syntax_of tokens.now tree.now ≡ r.0) }
+    ensures typed { IfOk result (λ r. program_judged sources.now tokens.now tree.now ≡ Ok r.1) }
+    ensures refused { IfErr result (RulesRefused entry.now sources.now tokens.now tree.now) }
+{
+    let syntax = match read_parsed(alloc, tokens, tree) {
+        Ok(syntax) => syntax,
+        Err(OutOfMemory) => return Err(Status::OutOfMemory),
+    };
+    match judged(alloc, sources, tokens, &syntax) {
+        Ok(Ok(checked)) => Ok((syntax, checked)),
+        Ok(Err(fault)) => Err(program_status(alloc, entry, sources, tokens, fault)),
+        Err(OutOfMemory) => Err(Status::OutOfMemory),
     }
 }
 
 /// Whether the program of a tree is of the form that is built so far and breaks no rule of declarations and of
 /// types; else the status of stage 7, 5 or 6 that refuses it.
+#[tactic(auto, using(crate::proofs::Refusing::is_kept))]
 pub fn judge_rules(
     alloc: Global,
     entry: &Text8,
@@ -145,13 +171,8 @@ pub fn judge_rules(
     ensures kept { IfOk result (λ _. program_refused sources.now tokens.now tree.now ≡ None) }
     ensures refused { IfErr result (RulesRefused entry.now sources.now tokens.now tree.now) }
 {
-    let syntax = match read_parsed(alloc, tokens, tree) {
-        Ok(syntax) => syntax,
-        Err(OutOfMemory) => return Err(Status::OutOfMemory),
-    };
-    match broken_rule(alloc, sources, tokens, &syntax) {
-        Ok(None) => Ok(()),
-        Ok(Some(fault)) => Err(fault_status(alloc, entry, sources, tokens, fault)),
-        Err(OutOfMemory) => Err(Status::OutOfMemory),
+    match judge_program_rules(alloc, entry, sources, tokens, tree) {
+        Ok((_syntax, _checked)) => Ok(()),
+        Err(status) => Err(status),
     }
 }
