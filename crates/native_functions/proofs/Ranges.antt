@@ -1,8 +1,12 @@
 -- Arguments in range, and out of it.
-use Rattle.std.proofs.Common.{◌≡◌, ℕ, Bool, true, false, List, [], drop, Option, Some, None, Result, Err, refl, sym, ap, ◌∙◌, subst}
+use Rattle.std.proofs.Common.{◌≡◌, ℕ, ◌<◌, ◌≤◌, ◌*◌, ℤ, pos, negsuc, ◌<ℤ◌, ◌≤ℤ◌, Bool, true, false, List, [], drop, arith, Option, Some, None, Result, Err, refl, sym, ap, ◌∙◌, subst}
+use Rattle.std.specs.Prelude.{nat_lt, unsigned_abs}
+use Rattle.std.proofs.lemmas.Bool.Decides.{nat_tests}
+use Rattle.std.proofs.lemmas.Int.{ints}
 use Rattle.mql_mean.specs.declared.value.Value.{Value}
 use Rattle.mql_meaning.specs.declared.store.Store.{Store}
 use Rattle.mql_meaning.specs.Changes.{Change, Out, Done, Over, Stuck, after, either, the}
+use Rattle.mql_meaning.specs.Dates.{has_date}
 use Rattle.mql_meaning.specs.StringFunctions.{find_from}
 use Rattle.mql_meaning.specs.Natives.{NativeDone, finds, gives, in_range, minus_one, whole}
 use Rattle.store_cells.specs.declared.fault.Fault.{Fault}
@@ -62,3 +66,22 @@ pub not_found : (text part : List ℕ) (start : ℕ) (r : Result code.NativeDone
     find_from start part (drop start text) ≡ None → Comes (gives minus_one s) r s →
     Comes (finds text part start s) r s
 not_found text part start r s e h = rw e h
+
+-- times that have a date
+lt_true : (m n : ℕ) → m < n → nat_lt m n ≡ true
+lt_true m n h = grind (arith, nat_tests)
+
+lt_false : (m n : ℕ) → n ≤ m → nat_lt m n ≡ false
+lt_false m n h = grind (arith, nat_tests)
+
+pub undated : (t : ℤ) → t <ℤ pos 0 → has_date t ≡ false
+undated (negsuc t) h = refl
+undated (pos t) h = absurd (omega (arith, ints, h))
+
+pub too_late : (t : ℤ) → 376200 * 86400 ≤ unsigned_abs t → has_date t ≡ false
+too_late (negsuc t) h = refl
+too_late (pos t) h = lt_false t (376200 * 86400) h
+
+pub dated : (t : ℤ) → pos 0 ≤ℤ t → unsigned_abs t < 376200 * 86400 → has_date t ≡ true
+dated (negsuc t) g h = absurd (omega (arith, ints, g))
+dated (pos t) g h = lt_true t (376200 * 86400) h

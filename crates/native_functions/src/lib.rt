@@ -20,5 +20,5 @@ pub use strings::{
 };
 pub use texts::{
     char_to_string, double_to_string, integer_to_string, short_to_string, string_to_double,
-    string_to_integer,
+    string_to_integer, time_to_string,
 };

@@ -4,10 +4,10 @@ ghost use Rattle.mql_meaning.specs.Natives.{computes};
 ghost use Rattle.native_arguments.specs.Arguments.{all_shown};
 ghost use Rattle.native_arguments.specs.Done.{Computes};
 
-use crate::text_parts::{double, double_text, integer, integer_text, unit_text};
+use crate::text_parts::{double, double_text, integer, integer_text, time_text, unit_text};
 use mql_meaning::Store;
 use native_arguments::{
-    Argument, NativeDone, double_number, one_number, one_string, three_numbers,
+    Argument, NativeDone, double_number, one_number, one_string, three_numbers, two_numbers,
 };
 use std::alloc::Global;
 use store_cells::{End, Fault};
@@ -64,6 +64,20 @@ pub fn double_to_string(
 {
     match double_number(arguments) {
         Some((first, second)) => double_text(alloc, first, second, store),
+        None => Err(Fault::End(End::Stuck)),
+    }
+}
+
+/// `TimeToString`.
+pub fn time_to_string(
+    alloc: Global,
+    arguments: &[Argument<'_>],
+    store: &Store,
+) -> Result<NativeDone, Fault>
+    ensures { Computes (computes natives.TimeToString (all_shown arguments.now)) result store.now }
+{
+    match two_numbers(arguments) {
+        Some((first, second)) => time_text(alloc, first, second, store),
         None => Err(Fault::End(End::Stuck)),
     }
 }

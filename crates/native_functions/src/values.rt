@@ -1,6 +1,7 @@
 //! Values of native functions.
-ghost use Rattle.std.specs.Prelude.{◌≡◌, IfOk, unsigned_abs};
+ghost use Rattle.std.specs.Prelude.{◌≡◌, ◌<◌, ◌*◌, IfOk, MatchOption, false, true, unsigned_abs};
 ghost use Rattle.mql_meaning.specs.Natives as meaning;
+ghost use Rattle.mql_meaning.specs.Dates.{has_date};
 ghost use Rattle.native_arguments.specs.Done.{Computes};
 
 use fx8::{Fix8, IntKind, ItemList, OutOfMemory, Text};
@@ -94,4 +95,20 @@ pub(crate) fn becomes_text(
 {
     let new = text(units, store)?;
     Ok(gives_with(alloc, Cell::One(new), value)?)
+}
+
+/// The second of a time that has a date; `None` exactly for one that has none.
+#[tactic(auto, using(crate::proofs::Ranges::undated, crate::proofs::Ranges::too_late, crate::proofs::Ranges::dated))]
+pub(crate) fn second_in(time: i128) -> Option<u64>
+    ensures { MatchOption result (has_date time ≡ false)
+        (λ t. (has_date time ≡ true) × (unsigned_abs time ≡ t) × (t < 376200 * 86400)) }
+{
+    if time < 0 {
+        return None;
+    }
+    let second = time.unsigned_abs();
+    if second >= 376_200 * 86_400 {
+        return None;
+    }
+    Some(second as u64)
 }
