@@ -3,6 +3,7 @@
 
 mod number_parts;
 mod numbers;
+mod split_parts;
 mod string_parts;
 mod strings;
 mod text_parts;
@@ -15,8 +16,8 @@ pub use numbers::{
 };
 pub use strings::{
     string_compare, string_find, string_get_character, string_len, string_replace,
-    string_set_character, string_substr, string_to_lower, string_to_upper, string_trim_left,
-    string_trim_right,
+    string_set_character, string_split, string_substr, string_to_lower, string_to_upper,
+    string_trim_left, string_trim_right,
 };
 pub use texts::{
     char_to_string, double_to_string, integer_to_string, short_to_string, string_to_double,

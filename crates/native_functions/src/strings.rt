@@ -4,6 +4,7 @@ ghost use Rattle.mql_meaning.specs.Natives.{computes};
 ghost use Rattle.native_arguments.specs.Arguments.{all_shown};
 ghost use Rattle.native_arguments.specs.Done.{Computes};
 
+use crate::split_parts::parts;
 use crate::string_parts::{
     character, compared, cut, found, left_trimmed, length, replaced, right_trimmed, to_lower,
     to_upper, with_character,
@@ -11,7 +12,7 @@ use crate::string_parts::{
 use mql_meaning::Store;
 use native_arguments::{
     Argument, NativeDone, lent_string_two_numbers, lent_string_two_strings, one_lent_string,
-    one_string, string_number, string_two_numbers, two_strings_number,
+    one_string, string_number, string_number_array, string_two_numbers, two_strings_number,
 };
 use std::alloc::Global;
 use store_cells::{End, Fault};
@@ -152,6 +153,20 @@ pub fn string_set_character(
 {
     match lent_string_two_numbers(arguments) {
         Some((first, second, third)) => with_character(alloc, first, second, third, store),
+        None => Err(Fault::End(End::Stuck)),
+    }
+}
+
+/// `StringSplit`.
+pub fn string_split(
+    alloc: Global,
+    arguments: &[Argument<'_>],
+    store: &Store,
+) -> Result<NativeDone, Fault>
+    ensures { Computes (computes natives.StringSplit (all_shown arguments.now)) result store.now }
+{
+    match string_number_array(arguments) {
+        Some((first, second, third)) => parts(alloc, first, second, third, store),
         None => Err(Fault::End(End::Stuck)),
     }
 }

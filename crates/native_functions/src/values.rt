@@ -1,5 +1,5 @@
 //! Values of native functions.
-ghost use Rattle.std.specs.Prelude.{◌≡◌, ◌<◌, ◌*◌, IfOk, MatchOption, false, true, unsigned_abs};
+ghost use Rattle.std.specs.Prelude.{◌≡◌, ◌<◌, ◌*◌, [], ◌∷◌, IfOk, MatchOption, false, true, unsigned_abs};
 ghost use Rattle.mql_meaning.specs.Natives as meaning;
 ghost use Rattle.mql_meaning.specs.Dates.{has_date};
 ghost use Rattle.native_arguments.specs.Done.{Computes};
@@ -64,6 +64,18 @@ pub(crate) fn given(alloc: Global, value: Value, store: &Store) -> Result<Native
     ensures { Computes (meaning.gives value) result store.now }
 {
     Ok(gives(alloc, value))
+}
+
+/// A native function gives a value, and its first reference argument becomes a cell.
+pub(crate) fn given_with(
+    alloc: Global,
+    cell: Cell,
+    value: Value,
+    store: &Store,
+) -> Result<NativeDone, Fault>
+    ensures { Computes (meaning.gives_with (cell ∷ []) value) result store.now }
+{
+    Ok(gives_with(alloc, cell, value)?)
 }
 
 /// A native function gives a double.
