@@ -1,6 +1,9 @@
 //! The native functions of strings, of numbers and of conversions, over arguments that are lent.
 #![tactic(auto)]
 
+mod common;
+mod format_parts;
+mod formats;
 mod number_parts;
 mod numbers;
 mod split_parts;
@@ -10,6 +13,8 @@ mod text_parts;
 mod texts;
 mod values;
 
+pub use common::{comment, is_stopped};
+pub use formats::string_format;
 pub use numbers::{
     math_abs, math_ceil, math_floor, math_is_valid_number, math_max, math_min, math_mod, math_pow,
     math_round, math_sqrt, normalize_double,

@@ -47,6 +47,13 @@ pub(crate) fn empty(alloc: Global) -> Value
     Value::Str(ItemList::new(alloc))
 }
 
+/// The value of a void function.
+pub(crate) fn void_value() -> Value
+    ensures { result ≡ meaning.void_value }
+{
+    Value::Num(IntKind::Int, 0)
+}
+
 /// The unit of a number; `OutOfMemory` where no string holds it, which no number of a kind that units have
 /// comes to.
 pub(crate) fn unit(number: i128) -> Result<u16, OutOfMemory>
