@@ -28,3 +28,4 @@ pub use texts::{
     char_to_string, double_to_string, integer_to_string, short_to_string, string_to_double,
     string_to_integer, time_to_string,
 };
+pub use values::{given, given_with, second_in, truth_value, whole};

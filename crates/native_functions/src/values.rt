@@ -20,7 +20,7 @@ pub(crate) fn int(number: i128) -> Value
 }
 
 /// A count.
-pub(crate) fn whole(count: u64) -> Value
+pub fn whole(count: u64) -> Value
     ensures { result ≡ meaning.whole count }
 {
     Value::Num(IntKind::Int, count as i128)
@@ -34,7 +34,7 @@ pub(crate) fn minus_one() -> Value
 }
 
 /// A truth.
-pub(crate) fn truth_value(truth: bool) -> Value
+pub fn truth_value(truth: bool) -> Value
     ensures { result ≡ meaning.truth_value truth }
 {
     Value::Num(IntKind::Bool, if truth { 1 } else { 0 })
@@ -67,14 +67,14 @@ pub(crate) fn unit(number: i128) -> Result<u16, OutOfMemory>
 }
 
 /// A native function gives a value.
-pub(crate) fn given(alloc: Global, value: Value, store: &Store) -> Result<NativeDone, Fault>
+pub fn given(alloc: Global, value: Value, store: &Store) -> Result<NativeDone, Fault>
     ensures { Computes (meaning.gives value) result store.now }
 {
     Ok(gives(alloc, value))
 }
 
 /// A native function gives a value, and its first reference argument becomes a cell.
-pub(crate) fn given_with(
+pub fn given_with(
     alloc: Global,
     cell: Cell,
     value: Value,
@@ -118,7 +118,7 @@ pub(crate) fn becomes_text(
 
 /// The second of a time that has a date; `None` exactly for one that has none.
 #[tactic(auto, using(crate::proofs::Ranges::undated, crate::proofs::Ranges::too_late, crate::proofs::Ranges::dated))]
-pub(crate) fn second_in(time: i128) -> Option<u64>
+pub fn second_in(time: i128) -> Option<u64>
     ensures { MatchOption result (has_date time ≡ false)
         (λ t. (has_date time ≡ true) × (unsigned_abs time ≡ t) × (t < 376200 * 86400)) }
 {
