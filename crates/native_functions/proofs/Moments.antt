@@ -1,5 +1,5 @@
 -- Parts of the text of a moment.
-use Rattle.std.proofs.Common.{◌≡◌, ℕ, ℤ, Bool, true, false, List, [], Result, IfOk, unsigned_abs, sym, ap, subst}
+use Rattle.std.proofs.Common.{◌≡◌, ℕ, ℤ, Bool, true, List, [], Result, IfOk, unsigned_abs, sym, ap, subst}
 use Rattle.fx8.specs.declared.int_kind.IntKind.TheVariants as kind
 use Rattle.fx8.specs.Operators.{bits}
 use Rattle.mql_meaning.specs.declared.store.Store.{Store}
@@ -30,7 +30,7 @@ parts_are {E} day clock second flags r d k h =
     subst (λ (x : List ℕ). IfOk r (λ t. t ≡ apart x (clock_text second flags))) d
     (subst (λ (x : List ℕ). IfOk r (λ t. t ≡ apart day x)) k h)
 
--- TimeToString, of a time that has a date, and of one that has none
+-- TimeToString, of a time that has a date
 pub tells : (time flags : ℤ) (second word : ℕ) (r : Result code.NativeDone Fault) (s : Store) →
     has_date time ≡ true → unsigned_abs time ≡ second → word ≡ bits kind.Int flags →
     Comes (gives_text (time_parts second word) s) r s → Comes (tells_time time flags s) r s
@@ -39,9 +39,3 @@ tells time flags second word r s d n w h =
     (sym d)
     (subst (λ (m : ℕ). Comes (gives_text (time_parts m (bits kind.Int flags)) s) r s) (sym n)
     (subst (λ (m : ℕ). Comes (gives_text (time_parts second m) s) r s) w h))
-
-pub tells_none : (time flags : ℤ) (r : Result code.NativeDone Fault) (s : Store) → has_date time ≡ false →
-    Comes (refuses empty s) r s → Comes (tells_time time flags s) r s
-tells_none time flags r s d h =
-    subst (λ (b : Bool). Comes (either b (gives_text (time_parts (unsigned_abs time) (bits kind.Int flags))) (refuses empty) s) r s)
-    (sym d) h

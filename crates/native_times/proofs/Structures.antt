@@ -1,4 +1,4 @@
--- TimeToStruct, of a time that has a date, and of one that has none.
+-- TimeToStruct, of a time that has a date.
 use Rattle.std.proofs.Common.{◌≡◌, ℕ, ℤ, Bool, true, false, List, Some, Result, unsigned_abs, sym, subst}
 use Rattle.mql_meaning.specs.declared.cell.Cell.{Cell}
 use Rattle.mql_meaning.specs.declared.store.Store.{Store}

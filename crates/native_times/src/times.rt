@@ -1,4 +1,4 @@
-//! The native functions of times and their fields (MQL5 Reference, Date and Time, TimeToStruct, StructToTime).
+//! The native functions of times and their fields (MQL5 Reference, Date and Time).
 ghost use Rattle.natives.specs.declared.native.Native.TheVariants as natives;
 ghost use Rattle.mql_meaning.specs.Natives.{computes};
 ghost use Rattle.native_arguments.specs.Arguments.{all_shown};
