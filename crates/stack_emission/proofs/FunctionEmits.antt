@@ -84,7 +84,6 @@ function_added f old gives d c codes g b few e codes_are = record {
     instructions = d.instructions;
     finished = e;
     few = few;
-    end = length d.instructions;
     is = subst (λ g. whole_body g f.body fs (listing_of fs d.constants c) 0 (length d.instructions)) g
         (subst (λ c. whole_body gives f.body fs (listing_of fs d.constants c) 0 (length d.instructions)) (sym e)
         (body_stays gives f.body fs (listing_in fs d) (listing_of fs d.constants (finished f d.labels d.instructions)) (finished_kept fs d f) 0 (length d.instructions) (b.is fs)));
@@ -98,8 +97,7 @@ written_later fs old new f c keep w = record {
   instructions = w.instructions;
   finished = w.finished;
   few = w.few;
-  end = w.end;
-  is = body_stays (is_some f.result) f.body fs (listing_of fs old c) (listing_of fs new c) (record { instructions = λ place i h. h; labels = λ l place h. h; constants = keep; functions = λ k operands gives h. h }) 0 w.end w.is;
+  is = body_stays (is_some f.result) f.body fs (listing_of fs old c) (listing_of fs new c) (record { instructions = λ place i h. h; labels = λ l place h. h; constants = keep; functions = λ k operands gives h. h }) 0 (length w.instructions) w.is;
 }
 
 each_later : (fs : List Function) (old new : List Value) (gs : List Function) (cs : List FunctionCode) → ((k : ℕ) (v : Value) → slice_get old k ≡ Some v → slice_get new k ≡ Some v) → EachWritten fs old gs cs → EachWritten fs new gs cs

@@ -1,5 +1,5 @@
 -- The code of a whole program.
-use Rattle.std.proofs.Common.{◌≡◌, ℕ, zero, suc, is_some, Bool, true, List, [], ◌∷◌, Option, Some, None, refl, sym, ap, ◌∙◌, subst, arith}
+use Rattle.std.proofs.Common.{◌≡◌, ℕ, zero, suc, is_some, Bool, true, List, [], ◌∷◌, length, Option, Some, None, refl, sym, ap, ◌∙◌, subst, arith}
 use Rattle.std.specs.Prelude.{slice_get}
 use Rattle.std.proofs.lemmas.Option.{slice_get_past}
 use Rattle.mql_mean.specs.declared.value.Value.{Value}
@@ -9,12 +9,15 @@ use Rattle.mql_meaning.specs.declared.tree.Function.{Function}
 use Rattle.mql_meaning.specs.declared.tree.Statement.{Statement}
 use Rattle.stack_code.specs.declared.code.Code.{Code}
 use Rattle.stack_code.specs.declared.code.FunctionCode.{FunctionCode}
-use Rattle.stack_code.specs.Machine.{place_of, function_at, arguments_of, head_of}
+use Rattle.stack_code.specs.Machine.{place_of, function_at, label_at, arguments_of, head_of}
+use Rattle.stack_code.specs.Paced.{PacedFunction, Paced}
 use Rattle.stack_follows.specs.Spans.{Listing}
 use Rattle.stack_follows.specs.Stands.{CleanupAt, BodyAt, FunctionAt, Takes, listing, CodeOf, Coded, Stands, Exits}
+use Rattle.stack_follows.proofs.PaceFunctions.{function_paced}
 use Rattle.stack_emission.specs.declared.functions.Functions.{Functions}
 use Rattle.stack_emission.specs.HasCode.{statement_has_code, body_has_code, bodies_have_code, has_code}
 use Rattle.stack_emission.specs.Draft.{IsCalled}
+use Rattle.stack_emission.specs.Lowers.{BuiltWhereItHasCode}
 use Rattle.stack_emission.specs.Statements.{statements}
 use Rattle.stack_emission.specs.Functions.{nowhere, outermost, whole_body, placed, listing_of, Written, EachWritten, AllWritten}
 use Rattle.stack_emission.proofs.Kept.{Kept, seq_map, with_map}
@@ -71,13 +74,19 @@ module _ (fs : List Function) (code : Code) (all : EachWritten fs code.constants
     functions = is_taken;
   }
 
+  leads_nowhere : (k : ℕ) (f : Function) (c : FunctionCode) → slice_get code.functions k ≡ Some c → Written fs code.constants f c → label_at code k nowhere ≡ None
+  leads_nowhere k f c e w = ap (λ o. then_some o (λ (c : FunctionCode). then_some (slice_get c.labels nowhere) place_of)) e ∙ ap (λ (c : FunctionCode). then_some (slice_get c.labels nowhere) place_of) w.finished ∙ ap (λ o. then_some o place_of) (slice_get_past (placed w.labels) nowhere (let few = w.few in omega (arith, few, placed_length w.labels)))
+
+  body_is : (k : ℕ) (f : Function) (c : FunctionCode) → slice_get code.functions k ≡ Some c → body_has_code fs f.body ≡ true → (w : Written fs code.constants f c) → FunctionAt (listing code k) f nowhere 0 (length w.instructions)
+  body_is k f c e h w = function_stands fs (listing code k) f 0 (length w.instructions) h (body_stays (is_some f.result) f.body fs (listing_of fs code.constants c) (listing code k) (known k c e) 0 (length w.instructions) w.is)
+
   code_of : (k : ℕ) (f : Function) (c : FunctionCode) → slice_get code.functions k ≡ Some c → body_has_code fs f.body ≡ true → Written fs code.constants f c → CodeOf code k f c
   code_of k f c e h w = record {
     head = ap head_of w.finished;
     nowhere = nowhere;
-    is_nowhere = ap (λ o. then_some o (λ (c : FunctionCode). then_some (slice_get c.labels nowhere) place_of)) e ∙ ap (λ (c : FunctionCode). then_some (slice_get c.labels nowhere) place_of) w.finished ∙ ap (λ o. then_some o place_of) (slice_get_past (placed w.labels) nowhere (let few = w.few in omega (arith, few, placed_length w.labels)));
-    end = w.end;
-    is = function_stands fs (listing code k) f 0 w.end h (body_stays (is_some f.result) f.body fs (listing_of fs code.constants c) (listing code k) (known k c e) 0 w.end w.is);
+    is_nowhere = leads_nowhere k f c e w;
+    end = length w.instructions;
+    is = body_is k f c e h w;
   }
 
   coded : (k : ℕ) → bodies_have_code fs fs ≡ true → Coded code k (slice_get fs k) (function_at code k)
@@ -89,7 +98,22 @@ module _ (fs : List Function) (code : Code) (all : EachWritten fs code.constants
       of_pair None (Some c) d e p = absurd p
       of_pair (Some f) None d e p = absurd p
 
-pub stands : (p : Checked) (w : Functions) → AllWritten p.functions w → has_code p ≡ true → Stands p (record { constants = w.constants; classes = p.classes; globals = p.globals; inputs = p.inputs; functions = w.functions; entries = p.entries })
+  paces : (k : ℕ) (c : FunctionCode) → bodies_have_code fs fs ≡ true → function_at code k ≡ Some c → PacedFunction c
+  paces k c h e = of_function (slice_get fs k) refl (subst (λ q. PairAt fs code.constants (slice_get fs k) q) e (pair_at fs code.constants fs code.functions k all))
+    where
+      of_function : (o : Option Function) → slice_get fs k ≡ o → PairAt fs code.constants o (Some c) → PacedFunction c
+      of_function None d w = absurd w
+      of_function (Some f) d w = function_paced code k c e f nowhere (length w.instructions) (leads_nowhere k f c e w) (sym (ap (λ (c : FunctionCode). length c.instructions) w.finished)) (body_is k f c e (has_body fs fs k f h d) w)
+
+stands : (p : Checked) (w : Functions) → AllWritten p.functions w → has_code p ≡ true → Stands p (record { constants = w.constants; classes = p.classes; globals = p.globals; inputs = p.inputs; functions = w.functions; entries = p.entries })
 stands p w all h =
     let code : Code = record { constants = w.constants; classes = p.classes; globals = p.globals; inputs = p.inputs; functions = w.functions; entries = p.entries } in
     record { tables = refl; functions = λ k. coded p.functions code (all p.functions) k h }
+
+paced : (p : Checked) (w : Functions) → AllWritten p.functions w → has_code p ≡ true → Paced (record { constants = w.constants; classes = p.classes; globals = p.globals; inputs = p.inputs; functions = w.functions; entries = p.entries })
+paced p w all h =
+    let code : Code = record { constants = w.constants; classes = p.classes; globals = p.globals; inputs = p.inputs; functions = w.functions; entries = p.entries } in
+    record { functions = λ k c e. paces p.functions code (all p.functions) k c h e }
+
+pub built : (p : Checked) (w : Functions) → AllWritten p.functions w → BuiltWhereItHasCode p (record { constants = w.constants; classes = p.classes; globals = p.globals; inputs = p.inputs; functions = w.functions; entries = p.entries })
+built p w all h = (stands p w all h, paced p w all h)

@@ -53,15 +53,15 @@ listing_of functions constants c =
       function_at = IsCalled functions;
     }
 
--- finished code of a function
+-- finished code of a function, which is its body and nothing else
 pub record Written (functions : List Function) (constants : List Value) (f : Function) (c : FunctionCode) :
     Type 0 where
   pub labels : List (Option ℕ)
   pub instructions : List Instruction
   pub finished : c ≡ finished f labels instructions
   pub few : length labels ≤ nowhere
-  pub end : ℕ
-  pub is : whole_body (is_some f.result) f.body functions (listing_of functions constants c) 0 end
+  pub is : whole_body (is_some f.result) f.body functions (listing_of functions constants c) 0
+      (length instructions)
 
 -- a function was written, and constants may have been added
 pub record AddsFunction (f : Function) (old new : Functions) : Type 0 where

@@ -1,6 +1,6 @@
 //! The code of programs.
 ghost use Rattle.std.specs.Prelude.{IfOk};
-ghost use Rattle.stack_emission.specs.Lowers.{Lowers, StandsWhereBuilt};
+ghost use Rattle.stack_emission.specs.Lowers.{BuiltWhereItHasCode, Lowers};
 
 use crate::copies::{copy_classes, copy_inputs, copy_types};
 use crate::forms::has_code;
@@ -19,7 +19,8 @@ pub enum LowerFault {
     NotBuilt,
 }
 
-/// The code of a typed program, which stands for it. A program with a form that has no code is refused.
+/// The code of a typed program, which stands for it and spends steps. A program with a form that has no code
+/// is refused.
 pub fn lower(alloc: Global, program: &Checked) -> Result<Code, LowerFault>
     ensures { Lowers program.now result }
 {
@@ -34,7 +35,7 @@ pub fn lower(alloc: Global, program: &Checked) -> Result<Code, LowerFault>
 
 /// The code of a program. Where a form has none, what is written for it is stuck.
 fn code_of(alloc: Global, program: &Checked) -> Result<Code, OutOfMemory>
-    ensures { IfOk result (λ code. StandsWhereBuilt program.now code) }
+    ensures { IfOk result (λ code. BuiltWhereItHasCode program.now code) }
 {
     let written = all_functions(alloc, program.functions.as_slice())?;
     let classes = copy_classes(alloc, program.classes.as_slice())?;

@@ -58,6 +58,7 @@ is_program sources tokens tree s p code parses syntax judged is = record {
   checked = p;
   means = run_is sources tokens tree s p (Ok p) syntax judged is.0;
   stands = is.1;
+  paced = is.2;
 }
 
 -- the status of a fault tells it

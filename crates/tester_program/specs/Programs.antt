@@ -7,6 +7,7 @@ use Rattle.mql_names.specs.declared.fault.Broken.{Broken}
 use Rattle.mql_meaning.specs.declared.tree.Checked.{Checked}
 use Rattle.mql_market_calls.specs.Calls.{first_market_call}
 use Rattle.stack_code.specs.declared.code.Code.{Code}
+use Rattle.stack_code.specs.Paced.{Paced}
 use Rattle.stack_follows.specs.Stands.{Stands}
 use Rattle.stack_emission.specs.HasCode.{has_code}
 use Rattle.mql_source.specs.declared.fault.SourceFault.{SourceFault}
@@ -52,16 +53,18 @@ with_run entry sources tokens next (Err f) = refuses (status.Source (run_fault e
 
 -- code that a typed program got, or why it got none
 abbrev pub IsRun : Option Broken → Checked → Result Code RunFault → Type 0
-IsRun call p (Ok code) = (by_calls call p ≡ Ok p) × Stands p code
+IsRun call p (Ok code) = (by_calls call p ≡ Ok p) × Stands p code × Paced code
 IsRun call p (Err f) = by_calls call p ≡ Err f
 
--- the code of a program's tokens: they have a tree, whose program is run, and the code stands for it
+-- the code of a program's tokens: they have a tree, whose program is run, and the code stands for it and spends
+-- steps
 pub record IsProgramOf (sources : List Source) (tokens : Tokens) (code : Code) : Type 0 where
   pub tree : Tree
   pub parses : Parsing tokens (Ok tree)
   pub checked : Checked
   pub means : runs sources tokens tree ≡ Ok checked
   pub stands : Stands checked code
+  pub paced : Paced code
 
 -- the status that tells why the program of a tree is not run
 abbrev pub RunRefused : List ℕ → List Source → Tokens → Tree → Status → Type 0
