@@ -1,0 +1,12 @@
+use Rattle.std.proofs.Common.{true, [], ◌∷◌}
+use Rattle.mql_meaning.specs.ArrayFunctions.{leaves, refilled, sorted}
+use Rattle.mql_meaning.specs.Natives.{gives_with, truth_value}
+use Rattle.native_arguments.specs.Arguments.{all_shown}
+use Rattle.native_arguments.proofs.Shapes.{one_cell_none, one_cell_some}
+use Rattle.native_array_functions.proofs.arrays.array_sort.Goals as goal
+
+pub returns-in-Some : goal.returns-in-Some
+returns-in-Some c = one_cell_some (λ c. gives_with (refilled c (sorted (leaves c)) ∷ []) (truth_value true)) (all_shown c.args.arguments.now) _ _ c.args.store.now c.in-Some.ensures c.in_order.ensures
+
+pub returns-in-None : goal.returns-in-None
+returns-in-None c = one_cell_none (λ c. gives_with (refilled c (sorted (leaves c)) ∷ []) (truth_value true)) (all_shown c.args.arguments.now) c.args.store.now c.in-None.ensures
