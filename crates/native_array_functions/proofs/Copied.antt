@@ -10,7 +10,8 @@ use Rattle.native_arguments.specs.declared.done.NativeDone as code
 use Rattle.native_arguments.specs.Done.{Comes}
 use Rattle.native_array_functions.specs.Parts.{copy_into, place_from}
 
-copies_to : (target source : Cell) (a : ArrayParts) (at start count : ℤ) (s : Store) → array_of target ≡ Some a →
+copies_to : (target source : Cell) (a : ArrayParts) (at start count : ℤ) (s : Store) →
+    array_of target ≡ Some a →
     copies target source at start count s ≡ copy_into a (leaves source) at start count s
 copies_to target source a (pos i) start count s e = rw e refl
 copies_to target source a (negsuc i) start count s e = rw e refl
@@ -19,7 +20,8 @@ pub copies_none : (target source : Cell) (at start count : ℤ) (s : Store) → 
     copies target source at start count s ≡ Over Stuck s
 copies_none target source at start count s e = rw e refl
 
-pub copies_some : (target source : Cell) (a : ArrayParts) (at start count : ℤ) (r : Result code.NativeDone Fault)
+pub copies_some : (target source : Cell) (a : ArrayParts) (at start count : ℤ)
+    (r : Result code.NativeDone Fault)
     (s : Store) → array_of target ≡ Some a → Comes (copy_into a (leaves source) at start count s) r s →
     Comes (copies target source at start count s) r s
 copies_some target source a at start count r s e h =
@@ -33,5 +35,7 @@ no_size a (negsuc n) d s e h = ap (λ (c : NativeDone). Done c s) (sym h)
 
 pub some_size : (a : ArrayParts) (x : ℤ) (n : ℕ) (r : Result code.NativeDone Fault) (s : Store) →
     place_from x ≡ Some n → Comes (resizes a (pos n) s) r s → Comes (resizes a x s) r s
-some_size a (pos m) n r s e h = let same : m ≡ n = cc in subst (λ (k : ℕ). Comes (resizes a (pos k) s) r s) (sym same) h
+some_size a (pos m) n r s e h =
+    let same : m ≡ n = cc in
+    subst (λ (k : ℕ). Comes (resizes a (pos k) s) r s) (sym same) h
 some_size a (negsuc m) n r s e h = absurd cc

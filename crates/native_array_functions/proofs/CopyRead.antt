@@ -41,9 +41,11 @@ pub copies_none : (xs : List Argument) (s : Store) → read_5 xs ≡ None → co
 copies_none xs s e = copies_by xs s ∙ ap (λ o. after (the o s) copies_read) e
 
 pub copies_some : (xs : List Argument) (p : CopyRead) (r : Result done.NativeDone Fault) (s : Store) →
-    read_5 xs ≡ Some p → Comes (copies p.target p.source p.at p.start p.count s) r s → Comes (copies_of xs s) r s
+    read_5 xs ≡ Some p → Comes (copies p.target p.source p.at p.start p.count s) r s →
+    Comes (copies_of xs s) r s
 copies_some xs p r s e h =
-    subst (λ (o : Out NativeDone). Comes o r s) (sym (copies_by xs s ∙ ap (λ o. after (the o s) copies_read) e)) h
+    subst (λ (o : Out NativeDone). Comes o r s)
+    (sym (copies_by xs s ∙ ap (λ o. after (the o s) copies_read) e)) h
 
 -- five arguments
 pub five_are : (xs : List code.Argument) (a b c d e : code.Argument) → length xs ≡ 5 → a ≡ get_or xs 0 a →
@@ -70,7 +72,8 @@ five_are_not (p ∷ q ∷ r ∷ s ∷ t ∷ u ∷ xs) h = refl
 -- what is read where one is not what it should be
 abbrev read_of : Option Cell → Option Cell → Option ℤ → Option ℤ → Option ℤ → Option CopyRead
 read_of t u i j k =
-    then_some t (λ target. then_some u (λ source. then_some i (λ at. then_some j (λ start. then_some k (λ count.
+    then_some t (λ target. then_some u (λ source. then_some i (λ at. then_some j (λ start.
+    then_some k (λ count.
     Some (record { target = target; source = source; at = at; start = start; count = count }))))))
 
 no_second : (t : Option Cell) (i j k : Option ℤ) → read_of t None i j k ≡ None
@@ -128,7 +131,8 @@ read_fifth xs a b c d e h n =
     ∙ no_fifth (cell_in a) (cell_in b) (number_in c) (number_in d)
 
 pub read_all : (xs : List Argument) (a b c d e : Argument) (t u : Cell) (i j k : ℤ) → xs ≡ these a b c d e →
-    cell_in a ≡ Some t → cell_in b ≡ Some u → number_in c ≡ Some i → number_in d ≡ Some j → number_in e ≡ Some k →
+    cell_in a ≡ Some t → cell_in b ≡ Some u → number_in c ≡ Some i → number_in d ≡ Some j →
+    number_in e ≡ Some k →
     read_5 xs ≡ Some (record { target = t; source = u; at = i; start = j; count = k })
 read_all xs a b c d e t u i j k h l m n o p =
     ap read_5 h ∙ ap (λ (q : Option Cell). read_of q (cell_in b) (number_in c) (number_in d) (number_in e)) l

@@ -11,19 +11,19 @@ use Rattle.native_arguments.specs.Arguments.{array_in, cell_in, number_in, read_
 use Rattle.native_arguments.specs.Done.{Comes}
 use Rattle.native_arguments.proofs.Shapes.{array_number_some, array_two_numbers_some, cell_two_numbers_some}
 
-pub array_number_passed : (f : ArrayParts → ℤ → Change NativeDone) (xs : List Argument) (a : ArrayParts) (u p : ℤ)
+pub array_number_passed : (f : ArrayParts → ℤ → Change NativeDone) (xs : List Argument)
+    (a : ArrayParts) (u p : ℤ)
     (r : Result code.NativeDone Fault) (s : Store) → read_2 array_in number_in xs ≡ Some (a, u) → p ≡ u →
     Comes (f a p s) r s → Comes (with_2 an_array a_number f xs s) r s
 array_number_passed f xs a u p r s e d h =
     array_number_some f xs a u r s e (subst (λ (x : ℤ). Comes (f a x s) r s) d h)
 
-pub array_two_numbers_passed : (f : ArrayParts → ℤ → ℤ → Change NativeDone) (xs : List Argument) (a : ArrayParts)
-    (u v p q : ℤ) (r : Result code.NativeDone Fault) (s : Store) →
-    read_3 array_in number_in number_in xs ≡ Some (a, u, v) → p ≡ u → q ≡ v → Comes (f a p q s) r s →
+pub array_two_numbers_passed : (f : ArrayParts → ℤ → ℤ → Change NativeDone) (xs : List Argument)
+    (a : ArrayParts) (u v p : ℤ) (r : Result code.NativeDone Fault) (s : Store) →
+    read_3 array_in number_in number_in xs ≡ Some (a, u, v) → p ≡ u → Comes (f a p v s) r s →
     Comes (with_3 an_array a_number a_number f xs s) r s
-array_two_numbers_passed f xs a u v p q r s e d g h =
-    array_two_numbers_some f xs a u v r s e
-    (subst (λ (x : ℤ). Comes (f a x v s) r s) d (subst (λ (y : ℤ). Comes (f a p y s) r s) g h))
+array_two_numbers_passed f xs a u v p r s e d h =
+    array_two_numbers_some f xs a u v r s e (subst (λ (x : ℤ). Comes (f a x v s) r s) d h)
 
 pub cell_two_numbers_passed : (f : Cell → ℤ → ℤ → Change NativeDone) (xs : List Argument) (c : Cell)
     (u v p q : ℤ) (r : Result code.NativeDone Fault) (s : Store) →

@@ -109,7 +109,6 @@ pub(crate) fn with_size(
     alloc: Global,
     array: Array<'_>,
     count: i128,
-    _reserve: i128,
     store: &Store,
 ) -> Result<NativeDone, Fault>
     ensures { Computes (meaning.resizes (parts_of array.entry) count) result store.now }

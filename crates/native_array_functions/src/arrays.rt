@@ -43,7 +43,7 @@ pub fn array_range(
     }
 }
 
-/// `ArrayResize`.
+/// `ArrayResize`; the reserve changes nothing that a program sees.
 pub fn array_resize(
     alloc: Global,
     arguments: &[Argument<'_>],
@@ -52,7 +52,7 @@ pub fn array_resize(
     ensures { Computes (computes natives.ArrayResize (all_shown arguments.now)) result store.now }
 {
     match array_two_numbers(arguments) {
-        Some((first, second, third)) => with_size(alloc, first, second, third, store),
+        Some((first, second, _)) => with_size(alloc, first, second, store),
         None => Err(Fault::End(End::Stuck)),
     }
 }

@@ -8,7 +8,8 @@ use Rattle.mql_meaning.specs.Natives.{Argument, computes}
 use Rattle.native_dispatch.specs.declared.contents.Chapter.TheVariants as chapters
 use Rattle.native_dispatch.specs.Chapters.{chapter, in_strings, in_texts, in_arrays, in_numbers, in_times}
 
-pub strings_are : (f : Native) (xs : List Argument) (s : Store) → chapter f ≡ chapters.Strings → computes f xs s ≡ in_strings f xs s
+pub strings_are : (f : Native) (xs : List Argument) (s : Store) → chapter f ≡ chapters.Strings →
+    computes f xs s ≡ in_strings f xs s
 strings_are natives.StringLen xs s e = refl
 strings_are natives.StringSubstr xs s e = refl
 strings_are natives.StringFind xs s e = refl
@@ -23,7 +24,8 @@ strings_are natives.StringSplit xs s e = refl
 strings_are natives.StringCompare xs s e = refl
 strings_are _ xs s e = absurd cc
 
-pub texts_are : (f : Native) (xs : List Argument) (s : Store) → chapter f ≡ chapters.Texts → computes f xs s ≡ in_texts f xs s
+pub texts_are : (f : Native) (xs : List Argument) (s : Store) → chapter f ≡ chapters.Texts →
+    computes f xs s ≡ in_texts f xs s
 texts_are natives.StringToInteger xs s e = refl
 texts_are natives.StringToDouble xs s e = refl
 texts_are natives.IntegerToString xs s e = refl
@@ -34,7 +36,8 @@ texts_are natives.ShortToString xs s e = refl
 texts_are natives.StringFormat xs s e = refl
 texts_are _ xs s e = absurd cc
 
-pub arrays_are : (f : Native) (xs : List Argument) (s : Store) → chapter f ≡ chapters.Arrays → computes f xs s ≡ in_arrays f xs s
+pub arrays_are : (f : Native) (xs : List Argument) (s : Store) → chapter f ≡ chapters.Arrays →
+    computes f xs s ≡ in_arrays f xs s
 arrays_are natives.ArraySize xs s e = refl
 arrays_are natives.ArrayRange xs s e = refl
 arrays_are natives.ArrayResize xs s e = refl
@@ -50,7 +53,8 @@ arrays_are natives.ArrayIsDynamic xs s e = refl
 arrays_are natives.ZeroMemory xs s e = refl
 arrays_are _ xs s e = absurd cc
 
-pub numbers_are : (f : Native) (xs : List Argument) (s : Store) → chapter f ≡ chapters.Numbers → computes f xs s ≡ in_numbers f xs s
+pub numbers_are : (f : Native) (xs : List Argument) (s : Store) → chapter f ≡ chapters.Numbers →
+    computes f xs s ≡ in_numbers f xs s
 numbers_are natives.MathAbs xs s e = refl
 numbers_are natives.MathMax xs s e = refl
 numbers_are natives.MathMin xs s e = refl
@@ -64,14 +68,16 @@ numbers_are natives.MathIsValidNumber xs s e = refl
 numbers_are natives.NormalizeDouble xs s e = refl
 numbers_are _ xs s e = absurd cc
 
-pub times_are : (f : Native) (xs : List Argument) (s : Store) → chapter f ≡ chapters.Times → computes f xs s ≡ in_times f xs s
+pub times_are : (f : Native) (xs : List Argument) (s : Store) → chapter f ≡ chapters.Times →
+    computes f xs s ≡ in_times f xs s
 times_are natives.Comment xs s e = refl
 times_are natives.TimeToStruct xs s e = refl
 times_are natives.StructToTime xs s e = refl
 times_are natives.IsStopped xs s e = refl
 times_are _ xs s e = absurd cc
 
-pub elsewhere_is : (f : Native) (xs : List Argument) (s : Store) → chapter f ≡ chapters.Elsewhere → computes f xs s ≡ Over Stuck s
+pub elsewhere_is : (f : Native) (xs : List Argument) (s : Store) → chapter f ≡ chapters.Elsewhere →
+    computes f xs s ≡ Over Stuck s
 elsewhere_is natives.StringLen xs s e = absurd cc
 elsewhere_is natives.StringSubstr xs s e = absurd cc
 elsewhere_is natives.StringFind xs s e = absurd cc

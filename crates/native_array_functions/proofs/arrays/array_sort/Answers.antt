@@ -6,7 +6,11 @@ use Rattle.native_arguments.proofs.Shapes.{one_cell_none, one_cell_some}
 use Rattle.native_array_functions.proofs.arrays.array_sort.Goals as goal
 
 pub returns-in-Some : goal.returns-in-Some
-returns-in-Some c = one_cell_some (λ c. gives_with (refilled c (sorted (leaves c)) ∷ []) (truth_value true)) (all_shown c.args.arguments.now) _ _ c.args.store.now c.in-Some.ensures c.in_order.ensures
+returns-in-Some c =
+    one_cell_some (λ c. gives_with (refilled c (sorted (leaves c)) ∷ []) (truth_value true))
+    (all_shown c.args.arguments.now) _ _ c.args.store.now c.in-Some.ensures c.in_order.ensures
 
 pub returns-in-None : goal.returns-in-None
-returns-in-None c = one_cell_none (λ c. gives_with (refilled c (sorted (leaves c)) ∷ []) (truth_value true)) (all_shown c.args.arguments.now) c.args.store.now c.in-None.ensures
+returns-in-None c =
+    one_cell_none (λ c. gives_with (refilled c (sorted (leaves c)) ∷ []) (truth_value true))
+    (all_shown c.args.arguments.now) c.args.store.now c.in-None.ensures

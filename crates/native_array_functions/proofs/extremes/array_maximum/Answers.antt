@@ -13,10 +13,15 @@ pub returns-in-Some : goal.returns-in-Some
 returns-in-Some c =
     let g : FitsSigned w128 c.in-Some.second = search rules in
     let h : FitsSigned w128 c.in-Some.third = search rules in
-    cell_two_numbers_passed (extreme (λ y x. int_lt x y)) (all_shown c.args.arguments.now) (seen c.in-Some.first)
-    c.in-Some.second c.in-Some.third (to_z w128 (of_z w128 c.in-Some.second)) (to_z w128 (of_z w128 c.in-Some.third))
-    c.maximum.result c.args.store.now c.in-Some.ensures (to_z-of_z w128 c.in-Some.second g) (to_z-of_z w128 c.in-Some.third h)
+    cell_two_numbers_passed (extreme (λ y x. int_lt x y))
+    (all_shown c.args.arguments.now) (seen c.in-Some.first)
+    c.in-Some.second c.in-Some.third
+    (to_z w128 (of_z w128 c.in-Some.second)) (to_z w128 (of_z w128 c.in-Some.third))
+    c.maximum.result c.args.store.now
+    c.in-Some.ensures (to_z-of_z w128 c.in-Some.second g) (to_z-of_z w128 c.in-Some.third h)
     c.maximum.ensures
 
 pub returns-in-None : goal.returns-in-None
-returns-in-None c = cell_two_numbers_none (extreme (λ y x. int_lt x y)) (all_shown c.args.arguments.now) c.args.store.now c.in-None.ensures
+returns-in-None c =
+    cell_two_numbers_none (extreme (λ y x. int_lt x y))
+    (all_shown c.args.arguments.now) c.args.store.now c.in-None.ensures
