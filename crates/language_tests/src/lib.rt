@@ -4,6 +4,4 @@
 #[cfg(test)]
 mod lists;
 #[cfg(test)]
-mod lowering;
-#[cfg(test)]
 mod native_tables;

@@ -1,5 +1,4 @@
 pub mod ReportLemmas
-pub mod PassLemmas
 pub mod RunLemmas
 pub mod QuoteLemmas
 pub mod OneReport

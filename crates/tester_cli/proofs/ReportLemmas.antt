@@ -1,8 +1,9 @@
 -- Pieces of the report, one after another.
 use Rattle.std.proofs.Common.{◌≡◌, ℕ, List, [], ◌∷◌, ◌++◌, Result, Ok, Err, refl, sym, ap, ◌∙◌, append_assoc, append-nil}
 use Rattle.std.specs.Prelude.{OnOk}
-use Rattle.tester_cli.specs.declared.result.Printed.{Printed}
-use Rattle.tester_cli.specs.Report.{shown_text, IsPrintLine, ArePrintLines}
+use Rattle.tester_world.specs.declared.printed.Printed.{Printed}
+use Rattle.tester_world.specs.Journal.{shown_text}
+use Rattle.tester_cli.specs.Report.{IsPrintLine, ArePrintLines}
 use Rattle.report.specs.Times.{IsTimeText}
 use Rattle.report.specs.Pieces.{Appends}
 

@@ -3,7 +3,7 @@ use Rattle.std.proofs.Common.{◌≡◌, ℕ, Bool, true, false, List, [], ◌�
 use Rattle.std.specs.Str.{bytes_eq}
 use Rattle.std.specs.Prelude.{codes}
 use Rattle.tester_io.specs.Outside.{Contents, FilesSeen, SinkSeen, WhereTold}
-use Rattle.mql_mean.specs.declared.tree.Checked.{Checked}
+use Rattle.mql_meaning.specs.declared.tree.Checked.{Checked}
 use Rattle.market_types.specs.declared.bar.Bar.{Bar}
 use Rattle.price_rows.specs.Files.{Judged, bars_of_file}
 use Rattle.tester_answer.specs.declared.status.Status.{Status}
@@ -19,28 +19,28 @@ use Rattle.tester_cli.specs.declared.run.Command.TheVariants.{Quick, Check, Quot
 use Rattle.tester_cli.specs.Commands.{with_bars, reports, quick_bars, quick_tree, quick_rest, quick_plan, says, check_tree, check_plan, command_of, with_one, with_two, plan_of_names, plan_of_command, plan_of}
 use Rattle.tester_market.specs.Reading.{price_limit}
 use Rattle.tester_market.proofs.QuotesPlan.{quotes_one}
-use Rattle.tester_cli.specs.Compiling.{IsProgramOf, ProgramRefused}
-use Rattle.stack_vm.specs.declared.code.Code.{Code}
+use Rattle.tester_program.specs.Programs.{runs, IsProgramOf, ProgramRefused}
+use Rattle.tester_program.proofs.RunLemmas.{run_leads, run_refuses, with_run_one}
+use Rattle.stack_code.specs.declared.code.Code.{Code}
 use Rattle.mql_tree.specs.declared.token.Tree.{Tree}
 use Rattle.mql_preproc.specs.declared.source.Source.{Source}
 use Rattle.mql_preproc.specs.Reading.{Preprocesses}
 use Rattle.mql_parse.specs.Parsed.{Parsing}
-use Rattle.mql_level.specs.Level.{program}
-use Rattle.mql_mean.specs.Talk.{MeansTalks}
+use Rattle.tester_pass.specs.Laws.{OneOutcome}
 use Rattle.tester_cli.proofs.OneReport.{reports_once}
 use Rattle.tester_sources.specs.Reading.{Tokens, program_plan, ReadInTurn, OneAnswer}
 use Rattle.tester_sources.specs.Judging.{tree_plan, OneTree}
 use Rattle.tester_sources.proofs.SourceLemmas.{read_leads}
-use Rattle.tester_sources.proofs.JudgeLemmas.{program_lead, tree_leads, form_leads, tree_refused, form_refused, program_one, tree_one, with_program_one, rules_lead, rules_refuse, with_rules_one}
+use Rattle.tester_sources.proofs.JudgeLemmas.{program_lead, tree_leads, tree_refused, program_one, tree_one, rules_lead, rules_refuse, with_rules_one}
 use Rattle.tester_sources.specs.Rules.{RulesRefused}
 use Rattle.tester_sources.specs.Rules as rules
 use Rattle.mql_source.specs.Limits.{most_files}
 
--- over files that have one answer of preprocessing, tokens that have one of the parser, and sources whose meaning is a talk with the world
-module _ (one : OneAnswer) (alone : OneTree) (talks : MeansTalks) where
+-- over files that have one answer of preprocessing, tokens that have one of the parser, and sources whose passes have one outcome
+module _ (one : OneAnswer) (alone : OneTree) (outcome : OneOutcome) where
   reports_one : (checked : Checked) (bars : List Bar) → OneEnd (Ends (reports checked bars))
   reports_one checked bars held s s' text text' after after' g g' =
-      (g.0 ∙ sym g'.0, reports_once talks checked bars text text' g.1 g'.1, g.2 ∙ sym g'.2)
+      (g.0 ∙ sym g'.0, reports_once outcome checked bars text text' g.1 g'.1, g.2 ∙ sym g'.2)
 
   bars_one : (name : List ℕ) (checked : Checked) (found : Judged Bar) → OneEnd (with_bars name found (λ rows. Ends (reports checked rows)))
   bars_one name checked (Err fault) = refuses_one (Prices name fault.0 fault.1)
@@ -52,7 +52,7 @@ module _ (one : OneAnswer) (alone : OneTree) (talks : MeansTalks) where
   quick_one : (expert bars : List ℕ) → OneEnd (quick_plan expert bars)
   quick_one expert bars =
       program_one one expert (quick_rest expert bars)
-      (λ sources tokens. tree_one alone expert sources tokens (quick_tree expert bars) (λ tree. with_program_one expert sources tokens (quick_bars bars) (λ checked. bars_read_one bars checked) (program tokens tree)))
+      (λ sources tokens. tree_one alone expert sources tokens (quick_tree expert bars) (λ tree. with_run_one expert sources tokens (quick_bars bars) (λ checked. bars_read_one bars checked) (runs sources tokens tree)))
 
   said_one : (words : List ℕ) → OneEnd (Ends (says words))
   said_one words held s s' text text' after after' g g' = (g.0 ∙ sym g'.0, g.1 ∙ sym g'.1, g.2 ∙ sym g'.2)
@@ -105,15 +105,15 @@ behind_refused entry sources tokens next before mid now s turns few makes read r
 pub program_refused : (expert bars : List ℕ) (sources : List Source) (tokens : Tokens) (before now : FilesSeen) (s : Status) → ProgramRefused expert sources tokens s → Refused Never (quick_rest expert bars sources tokens) before now s
 program_refused expert bars sources tokens before now s (inl h) = tree_refused expert sources tokens (quick_tree expert bars) before now s h
 program_refused expert bars sources tokens before now s (inr (tree, parses, h)) =
-    refused_on Never (quick_rest expert bars sources tokens) (quick_tree expert bars sources tokens tree) before before now s (tree_leads expert sources tokens tree (quick_tree expert bars) before.told parses) (only_read_same before) (form_refused expert sources tokens tree (quick_bars bars) before now s h)
+    refused_on Never (quick_rest expert bars sources tokens) (quick_tree expert bars sources tokens tree) before before now s (tree_leads expert sources tokens tree (quick_tree expert bars) before.told parses) (only_read_same before) (run_refuses expert sources tokens tree (quick_bars bars) before now s h)
 
 -- what comes behind the program
-pub program_leads : (expert bars : List ℕ) (sources : List Source) (tokens : Tokens) (tree : Tree) (checked : Checked) (told : Option Contents) → Parsing tokens (Ok tree) → program tokens tree ≡ Ok checked → Leads (quick_rest expert bars sources tokens) (quick_bars bars checked) told
+pub program_leads : (expert bars : List ℕ) (sources : List Source) (tokens : Tokens) (tree : Tree) (checked : Checked) (told : Option Contents) → Parsing tokens (Ok tree) → runs sources tokens tree ≡ Ok checked → Leads (quick_rest expert bars sources tokens) (quick_bars bars checked) told
 program_leads expert bars sources tokens tree checked told parses means =
-    leads_on (quick_rest expert bars sources tokens) (quick_tree expert bars sources tokens tree) (quick_bars bars checked) told (tree_leads expert sources tokens tree (quick_tree expert bars) told parses) (form_leads expert sources tokens tree checked (quick_bars bars) told means)
+    leads_on (quick_rest expert bars sources tokens) (quick_tree expert bars sources tokens tree) (quick_bars bars checked) told (tree_leads expert sources tokens tree (quick_tree expert bars) told parses) (run_leads expert sources tokens tree checked (quick_bars bars) told means)
 
 -- all of `quick` behind the files that were read and the program
-pub quick_leads : (expert bars : List ℕ) (sources : List Source) (tokens : Tokens) (told : Option Contents) (code : Code) (p : IsProgramOf tokens code) → WhereTold told (λ held. ReadInTurn expert held sources) → length sources ≤ most_files → Preprocesses expert sources (Ok tokens) → Leads (quick_plan expert bars) (quick_bars bars p.checked) told
+pub quick_leads : (expert bars : List ℕ) (sources : List Source) (tokens : Tokens) (told : Option Contents) (code : Code) (p : IsProgramOf sources tokens code) → WhereTold told (λ held. ReadInTurn expert held sources) → length sources ≤ most_files → Preprocesses expert sources (Ok tokens) → Leads (quick_plan expert bars) (quick_bars bars p.checked) told
 quick_leads expert bars sources tokens told code p turns few makes =
     leads_on (quick_plan expert bars) (quick_rest expert bars sources tokens) (quick_bars bars p.checked) told (read_leads expert told sources tokens (quick_rest expert bars) turns few makes)
     (program_leads expert bars sources tokens p.tree p.checked told p.parses p.means)
@@ -135,7 +135,7 @@ check_refused entry sources tokens tree before now s parses h =
     refused_on Never (tree_plan entry (check_tree entry) sources tokens) (check_tree entry sources tokens tree) before before now s (tree_leads entry sources tokens tree (check_tree entry) before.told parses) (only_read_same before) (rules_refuse entry sources tokens tree (Ends (says (codes "ok" ++ 10 ∷ []))) before now s h)
 
 -- a refusal behind the program
-pub quick_refused : (expert bars : List ℕ) (sources : List Source) (tokens : Tokens) (before mid now : FilesSeen) (s : Status) (code : Code) (p : IsProgramOf tokens code) → WhereTold before.told (λ held. ReadInTurn expert held sources) → length sources ≤ most_files → Preprocesses expert sources (Ok tokens) → OnlyRead before mid → Refused Never (quick_bars bars p.checked) mid now s → Refused Never (quick_plan expert bars) before now s
+pub quick_refused : (expert bars : List ℕ) (sources : List Source) (tokens : Tokens) (before mid now : FilesSeen) (s : Status) (code : Code) (p : IsProgramOf sources tokens code) → WhereTold before.told (λ held. ReadInTurn expert held sources) → length sources ≤ most_files → Preprocesses expert sources (Ok tokens) → OnlyRead before mid → Refused Never (quick_bars bars p.checked) mid now s → Refused Never (quick_plan expert bars) before now s
 quick_refused expert bars sources tokens before mid now s code p turns few makes read r =
     refused_on Never (quick_plan expert bars) (quick_bars bars p.checked) before mid now s (quick_leads expert bars sources tokens before.told code p turns few makes) read r
 

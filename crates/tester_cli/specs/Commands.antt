@@ -3,26 +3,26 @@ use Rattle.std.specs.Prelude.{◌≡◌, ℕ, Bool, true, false, map, String, Li
 use Rattle.std.specs.Str.{bytes_eq}
 use Rattle.std.specs.String.{string_bytes}
 use Rattle.std.specs.declared.string.String.{String}
-use Rattle.mql_mean.specs.declared.tree.Checked.{Checked}
+use Rattle.mql_meaning.specs.declared.tree.Checked.{Checked}
 use Rattle.market_types.specs.declared.bar.Bar.{Bar}
 use Rattle.market_types.specs.declared.quote.Quote.{Quote}
 use Rattle.market_types.specs.declared.period.Period.TheVariants.{M1}
 use Rattle.price_rows.specs.Files.{Judged, bars_of_file}
 use Rattle.market_data.specs.Quotes.{bar_quotes, heard}
-use Rattle.tester_cli.specs.declared.result.PassResult.{PassResult}
+use Rattle.tester_pass.specs.declared.result.PassResult.{PassResult}
+use Rattle.tester_pass.specs.Pass.{Passes, of_source}
 use Rattle.tester_cli.specs.declared.run.Command.{Command}
 use Rattle.tester_cli.specs.declared.run.Command.TheVariants.{Quick, Check, Quotes}
 use Rattle.tester_answer.specs.declared.status.Status.TheVariants.{Done, Usage, Prices}
 use Rattle.tester_answer.specs.Answer.{Ending, Plan, Reads, Ends, refuses}
 use Rattle.mql_tree.specs.declared.token.Tree.{Tree}
-use Rattle.mql_level.specs.Level.{program}
 use Rattle.mql_preproc.specs.declared.source.Source.{Source}
 use Rattle.tester_sources.specs.Reading.{Tokens, program_plan}
-use Rattle.tester_sources.specs.Judging.{tree_plan, with_program}
+use Rattle.tester_sources.specs.Judging.{tree_plan}
 use Rattle.tester_sources.specs.Rules.{with_rules, program_refused}
+use Rattle.tester_program.specs.Programs.{runs, with_run}
 use Rattle.tester_market.specs.Reading.{price_limit}
 use Rattle.tester_market.specs.Quotes.{quotes_plan}
-use Rattle.tester_cli.specs.Pass.{Passes}
 use Rattle.tester_cli.specs.Report.{IsReport}
 
 -- the bars of a file, or its first row that breaks a rule, with the first rule that it breaks
@@ -34,10 +34,11 @@ with_bars name (Ok bars) next = next bars
 abbrev pub opening_quotes : List Bar → List Quote
 opening_quotes bars = heard (Some M1) None (bar_quotes None 5 bars)
 
--- the report of a pass over the bars at opening prices, for a symbol of 5 digits; no file changes
+-- the report of a pass over the bars at opening prices, for a symbol of 5 digits, with the inputs as the source
+-- presets them; no file changes
 pub record Reports (checked : Checked) (bars : List Bar) (text : List ℕ) : Type 0 where
   pub result : PassResult
-  pub passes : Passes checked (opening_quotes bars) result
+  pub passes : Passes (of_source checked) [] (opening_quotes bars) result
   pub is_report : IsReport result text
 
 abbrev pub reports : Checked → List Bar → Ending
@@ -51,7 +52,7 @@ quick_bars bars checked =
 
 abbrev pub quick_tree : List ℕ → List ℕ → List Source → Tokens → Tree → Plan
 quick_tree expert bars sources tokens tree =
-    with_program expert sources tokens (quick_bars bars) (program tokens tree)
+    with_run expert sources tokens (quick_bars bars) (runs sources tokens tree)
 
 abbrev pub quick_rest : List ℕ → List ℕ → List Source → Tokens → Plan
 quick_rest expert bars = tree_plan expert (quick_tree expert bars)

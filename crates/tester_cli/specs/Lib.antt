@@ -1,6 +1,3 @@
 pub mod Refusals
 pub mod Commands
-pub mod Compiling
-pub mod Journal
-pub mod Pass
 pub mod Report

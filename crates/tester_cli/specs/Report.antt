@@ -1,15 +1,13 @@
 -- The report of a test. Own.
-use Rattle.std.specs.Prelude.{◌≡◌, ℕ, List, [], ◌∷◌, ◌++◌, length, codes, if◌then◌else◌, ◌==◌}
+use Rattle.std.specs.Prelude.{◌≡◌, ℕ, List, [], ◌∷◌, ◌++◌, length, codes}
 use Rattle.std.specs.Fmt.{decimal, signed_decimal}
-use Rattle.std.specs.List.{flat_map}
-use Rattle.std.specs.Str.{encode_utf8_all}
-use Rattle.std.specs.Char.Utf16.{utf16_lossy_chars}
 use Rattle.mql_mean.specs.declared.error.ErrorKind.{ErrorKind}
 use Rattle.mql_mean.specs.declared.error.ErrorKind.TheVariants.{ZeroDivide, ArrayRange, InvalidPointer, StackOverflow, FixedOverflow, CellsExhausted, PureCall, BadCast, PrintsExhausted, DealsExhausted, RequestsExhausted, MathDomain}
-use Rattle.tester_cli.specs.declared.result.PassEnd.{PassEnd}
-use Rattle.tester_cli.specs.declared.result.PassEnd.TheVariants as end
-use Rattle.tester_cli.specs.declared.result.PassResult.{PassResult}
-use Rattle.tester_cli.specs.declared.result.Printed.{Printed}
+use Rattle.tester_pass.specs.declared.result.PassEnd.{PassEnd}
+use Rattle.tester_pass.specs.declared.result.PassEnd.TheVariants as end
+use Rattle.tester_pass.specs.declared.result.PassResult.{PassResult}
+use Rattle.tester_world.specs.declared.printed.Printed.{Printed}
+use Rattle.tester_world.specs.Journal.{shown_text}
 use Rattle.report.specs.Times.{IsTimeText}
 
 -- the name of a run error
@@ -33,15 +31,9 @@ end_text end.Completed = codes "Completed"
 end_text (end.InitFailed answer) = codes "InitFailed:" ++ signed_decimal answer
 end_text end.Removed = codes "Removed"
 end_text end.Exhausted = codes "Exhausted"
+end_text end.Stopped = codes "Stopped"
+end_text end.Stuck = codes "Stuck"
 end_text (end.Error error) = codes "Error:" ++ error_name error.kind ++ 58 ∷ decimal error.line
-
--- a byte of a printed line: a line feed is written `\n` and a carriage return `\r`
-abbrev pub shown_byte : ℕ → List ℕ
-shown_byte b = if b == 10 then codes "\\n" else (if b == 13 then codes "\\r" else b ∷ [])
-
--- the bytes of a printed text: UTF-8 on one line, where a surrogate without its partner is U+FFFD
-unfoldable pub shown_text : List ℕ → List ℕ
-shown_text units = flat_map shown_byte (encode_utf8_all (utf16_lossy_chars units))
 
 -- a line of the journal of prints: its time, a blank and its text
 pub record IsPrintLine (printed : Printed) (line : List ℕ) : Type 0 where

@@ -2,14 +2,10 @@
 #![tactic(auto)]
 
 mod check;
-pub mod compiler;
 mod law;
-pub mod pass;
 mod quick;
-pub mod result;
 mod run;
 mod test_report;
-pub mod world;
 
 pub use law::one_answer;
 pub use run::run_single;

@@ -6,7 +6,6 @@ ghost use Rattle.tester_cli.specs.Commands.{command_of, plan_of_names, plan_of, 
 use crate::check::check;
 use crate::quick::quick;
 use fx8::Text8;
-use mql_mean::is_talk;
 use mql_parse::one_answer as tokens_have_one_answer;
 use mql_preproc::one_answer as files_have_one_answer;
 use std::alloc::Global;
@@ -14,6 +13,7 @@ use tester_answer::Status;
 use tester_answer::outside::write_whole;
 use tester_io::{Files, Sink, WriteError};
 use tester_market::quotes;
+use tester_pass::one_outcome;
 
 /// The commands.
 #[derive(Clone, Copy, Debug, PartialEq, Eq)]
@@ -124,7 +124,7 @@ pub fn run_single<F: Files, S: Sink>(
 {
     files_have_one_answer();
     tokens_have_one_answer();
-    is_talk();
+    one_outcome();
     match prepare(alloc, words, files) {
         Err(status) => status,
         Ok(text) => match write_whole(out, text.as_slice()) {

@@ -1,17 +1,17 @@
 //! The report of a test.
 ghost use Rattle.std.specs.Prelude.{◌≡◌, ℤ, pos, [], ◌∷◌, ◌++◌, ◌≤ℤ◌, ◌<ℤ◌, length, IfOk, OnOk, codes, All};
 ghost use Rattle.std.specs.Fmt.{decimal, signed_decimal};
-ghost use Rattle.std.specs.List.{flat_map};
-ghost use Rattle.tester_cli.specs.Report.{error_name, end_text, shown_byte, shown_text, settings_lines, number_line, end_line, IsPrintLine, ArePrintLines, report_head, IsReport};
+ghost use Rattle.tester_cli.specs.Report.{error_name, end_text, settings_lines, number_line, end_line, IsPrintLine, ArePrintLines, report_head, IsReport};
 ghost use Rattle.report.specs.Times.{IsReportTime};
 ghost use Rattle.report.specs.Pieces.{Appends};
 
-use crate::result::{PassEnd, PassResult, Printed};
 use fx8::{OutOfMemory, Text8};
 use mql_mean::ErrorKind;
 use report::push_time;
 use std::alloc::Global;
 use tester_answer::text::push_number;
+use tester_pass::{PassEnd, PassResult};
+use tester_world::{Printed, push_shown};
 
 fn error_name(kind: ErrorKind) -> &'static str
     ensures { result.now ≡ error_name kind }
@@ -51,6 +51,8 @@ fn push_end(text: &mut Text8, end: &PassEnd) -> Result<(), OutOfMemory>
         }
         PassEnd::Removed => text.extend_from_slice(b"Removed"),
         PassEnd::Exhausted => text.extend_from_slice(b"Exhausted"),
+        PassEnd::Stopped => text.extend_from_slice(b"Stopped"),
+        PassEnd::Stuck => text.extend_from_slice(b"Stuck"),
         PassEnd::Error(error) => {
             text.extend_from_slice(b"Error:")?;
             text.extend_from_slice(error_name(error.kind).as_bytes())?;
@@ -58,33 +60,6 @@ fn push_end(text: &mut Text8, end: &PassEnd) -> Result<(), OutOfMemory>
             push_number(text, u64::from(error.line))
         }
     }
-}
-
-fn push_byte(text: &mut Text8, byte: u8) -> Result<(), OutOfMemory>
-    ensures { OnOk result (text.new ≡ text.old ++ shown_byte byte) }
-{
-    match byte {
-        b'\n' => text.extend_from_slice(b"\\n"),
-        b'\r' => text.extend_from_slice(b"\\r"),
-        _ => text.push(byte),
-    }
-}
-
-fn push_bytes(text: &mut Text8, bytes: &[u8]) -> Result<(), OutOfMemory>
-    ensures { OnOk result (text.new ≡ text.old ++ flat_map shown_byte bytes.now) }
-{
-    for byte in bytes {
-        push_byte(text, *byte)?;
-    }
-    Ok(())
-}
-
-#[tactic(auto, unfolding(crate::specs::Report::shown_text))]
-pub fn push_shown(alloc: Global, text: &mut Text8, units: &[u16]) -> Result<(), OutOfMemory>
-    ensures { OnOk result (text.new ≡ text.old ++ shown_text units.now) }
-{
-    let characters = String::from_utf16_lossy(alloc, units)?;
-    push_bytes(text, characters.as_bytes())
 }
 
 #[tactic(auto, using(crate::proofs::ReportLemmas::print_line))]

@@ -5,8 +5,6 @@ use Rattle.mql_tree.specs.declared.token.Tree.{Tree}
 use Rattle.mql_preproc.specs.declared.source.Source.{Source}
 use Rattle.mql_parse.specs.declared.fault.ParseFault.{ParseFault}
 use Rattle.mql_parse.specs.Parsed.{Parsing}
-use Rattle.mql_level.specs.Level.{program}
-use Rattle.mql_mean.specs.declared.tree.Checked.{Checked}
 use Rattle.tester_answer.specs.declared.status.Status.{Status}
 use Rattle.tester_answer.specs.declared.status.Status.TheVariants as status
 use Rattle.tester_answer.specs.Answer.{Plan, Gives, never}
@@ -15,7 +13,7 @@ use Rattle.tester_answer.proofs.PlanLemmas.{Leads, leads_same, leads_finding}
 use Rattle.tester_answer.specs.Answer.{OneEnd}
 use Rattle.tester_answer.proofs.OneEnd.{refuses_one, finds_one}
 use Rattle.tester_sources.specs.Reading.{Tokens, program_plan, OneAnswer}
-use Rattle.tester_sources.specs.Judging.{with_tree, tree_plan, with_program, TreeRefused, FormRefused, OneTree}
+use Rattle.tester_sources.specs.Judging.{with_tree, tree_plan, TreeRefused, OneTree}
 use Rattle.tester_sources.specs.Rules.{with_rules, program_refused, RulesRefused}
 use Rattle.tester_sources.specs.declared.rules.ProgramFault.{ProgramFault}
 use Rattle.tester_sources.proofs.SourceLemmas.{sources_lead, sources_one}
@@ -31,10 +29,6 @@ program_lead entry next told = sources_lead (most_files + 1) entry [] next told
 pub tree_leads : (entry : List ℕ) (sources : List Source) (tokens : Tokens) (tree : Tree) (next : List Source → Tokens → Tree → Plan) (told : Option Contents) → Parsing tokens (Ok tree) → Leads (tree_plan entry next sources tokens) (next sources tokens tree) told
 tree_leads entry sources tokens tree next told parses = leads_finding (Result Tree ParseFault) (Parsing tokens) (with_tree entry sources tokens (next sources tokens)) told (Ok tree) parses
 
--- past the form
-pub form_leads : (entry : List ℕ) (sources : List Source) (tokens : Tokens) (tree : Tree) (checked : Checked) (next : Checked → Plan) (told : Option Contents) → program tokens tree ≡ Ok checked → Leads (with_program entry sources tokens next (program tokens tree)) (next checked) told
-form_leads entry sources tokens tree checked next told is = subst (λ r. Leads (with_program entry sources tokens next r) (next checked) told) (sym is) (leads_same (next checked) told)
-
 -- tokens without a tree are refused
 pub tree_refused : (entry : List ℕ) (sources : List Source) (tokens : Tokens) (next : List Source → Tokens → Tree → Plan) (before now : FilesSeen) (s : Status) → TreeRefused entry sources tokens s → Refused Never (tree_plan entry next sources tokens) before now s
 tree_refused entry sources tokens next before now (status.Source given) (fault, is, same) = λ held i. (Err fault, is, (ap status.Source same, refl, refl))
@@ -49,22 +43,6 @@ tree_refused entry sources tokens next before now (status.Absent name) h = absur
 tree_refused entry sources tokens next before now (status.ReadFault name) h = absurd h
 tree_refused entry sources tokens next before now status.WriteFault h = absurd h
 tree_refused entry sources tokens next before now (status.TooLarge name) h = absurd h
-
--- so is a tree that is not of the form
-pub form_refused : (entry : List ℕ) (sources : List Source) (tokens : Tokens) (tree : Tree) (next : Checked → Plan) (before now : FilesSeen) (s : Status) → FormRefused entry sources tokens tree s → Refused Never (with_program entry sources tokens next (program tokens tree)) before now s
-form_refused entry sources tokens tree next before now (status.Source given) (place, is, same) =
-    λ held i. subst (λ r. Gives (with_program entry sources tokens next r) held (status.Source given) [] held) (sym is) (ap status.Source same, refl, refl)
-form_refused entry sources tokens tree next before now status.OutOfMemory h = tt
-form_refused entry sources tokens tree next before now status.Done h = absurd h
-form_refused entry sources tokens tree next before now (status.Usage rule) h = absurd h
-form_refused entry sources tokens tree next before now (status.Settings rule key) h = absurd h
-form_refused entry sources tokens tree next before now (status.Prices file row rule) h = absurd h
-form_refused entry sources tokens tree next before now (status.CodeFile rule place) h = absurd h
-form_refused entry sources tokens tree next before now (status.Grid rule input) h = absurd h
-form_refused entry sources tokens tree next before now (status.Absent name) h = absurd h
-form_refused entry sources tokens tree next before now (status.ReadFault name) h = absurd h
-form_refused entry sources tokens tree next before now status.WriteFault h = absurd h
-form_refused entry sources tokens tree next before now (status.TooLarge name) h = absurd h
 
 -- past the rules
 pub rules_lead : (entry : List ℕ) (sources : List Source) (tokens : Tokens) (tree : Tree) (next : Plan) (told : Option Contents) → program_refused sources tokens tree ≡ None → Leads (with_rules entry sources tokens next (program_refused sources tokens tree)) next told
@@ -90,10 +68,6 @@ rules_refuse entry sources tokens tree next before now (status.TooLarge name) h 
 with_tree_one : (entry : List ℕ) (sources : List Source) (tokens : Tokens) (next : Tree → Plan) → ((tree : Tree) → OneEnd (next tree)) → (answer : Result Tree ParseFault) → OneEnd (with_tree entry sources tokens next answer)
 with_tree_one entry sources tokens next each (Ok tree) = each tree
 with_tree_one entry sources tokens next each (Err fault) = refuses_one _
-
-pub with_program_one : (entry : List ℕ) (sources : List Source) (tokens : Tokens) (next : Checked → Plan) → ((checked : Checked) → OneEnd (next checked)) → (answer : Result Checked (Option ℕ)) → OneEnd (with_program entry sources tokens next answer)
-with_program_one entry sources tokens next each (Ok checked) = each checked
-with_program_one entry sources tokens next each (Err place) = refuses_one _
 
 pub with_rules_one : (entry : List ℕ) (sources : List Source) (tokens : Tokens) (next : Plan) → OneEnd next → (answer : Option ProgramFault) → OneEnd (with_rules entry sources tokens next answer)
 with_rules_one entry sources tokens next each None = each

@@ -1,4 +1,4 @@
--- The tokens of a program are judged: their tree, and whether it is of the form that is built so far. Own.
+-- The tokens of a program are judged: their tree. Own.
 use Rattle.std.specs.Prelude.{◌≡◌, ◌-◌, ℕ, List, length, Option, Some, None, Result, Ok, Err, slice_get}
 use Rattle.mql_tree.specs.declared.token.Span.{Span}
 use Rattle.mql_tree.specs.declared.token.Token as token
@@ -7,8 +7,6 @@ use Rattle.mql_preproc.specs.declared.source.Source.{Source}
 use Rattle.mql_parse.specs.declared.fault.ParseFault.{ParseFault}
 use Rattle.mql_parse.specs.declared.fault.ParseFault.TheVariants as parsing
 use Rattle.mql_parse.specs.Parsed.{Parsing}
-use Rattle.mql_level.specs.Level.{program}
-use Rattle.mql_mean.specs.declared.tree.Checked.{Checked}
 use Rattle.mql_source.specs.declared.fault.SourceFault.{SourceFault}
 use Rattle.tester_answer.specs.declared.status.Status.{Status}
 use Rattle.tester_answer.specs.declared.status.Status.TheVariants as status
@@ -37,11 +35,6 @@ either_span (Some span) other = Some span
 abbrev pub span_near : Tokens → ℕ → Option Span
 span_near tokens place = either_span (span_at tokens place) (last_span tokens)
 
--- the place of the first token of a node, where it has one
-abbrev pub span_among : Tokens → Option ℕ → Option Span
-span_among tokens None = None
-span_among tokens (Some place) = span_at tokens place
-
 -- a rule of a stage that is broken at a place, else at line 1 of the entry
 abbrev pub placed : List ℕ → List Source → ℕ → ℕ → Option Span → SourceFault
 placed entry sources stage rule None = record { stage = stage; rule = rule; file = entry; line = 1 }
@@ -54,11 +47,6 @@ tree_fault entry sources tokens (parsing.Depth place) = placed entry sources 4 2
 tree_fault entry sources tokens (parsing.Nodes place) = placed entry sources 4 3 (span_near tokens place)
 tree_fault entry sources tokens parsing.OutOfMemory = placed entry sources 4 0 None
 
--- stage 7, rule 1: a tree that is not of the form that is built so far, at the first token of its first such
--- node
-abbrev pub form_fault : List ℕ → List Source → Tokens → Option ℕ → SourceFault
-form_fault entry sources tokens place = placed entry sources 7 1 (span_among tokens place)
-
 -- goes on with the tree, or refuses the tokens by stage 4
 abbrev pub with_tree : List ℕ → List Source → Tokens → (Tree → Plan) → Result Tree ParseFault → Plan
 with_tree entry sources tokens next (Ok tree) = next tree
@@ -69,25 +57,12 @@ abbrev pub tree_plan : List ℕ → (List Source → Tokens → Tree → Plan) �
 tree_plan entry next sources tokens =
     Finds (Result Tree ParseFault) (Parsing tokens) (with_tree entry sources tokens (next sources tokens))
 
--- goes on with what a tree of the level means, or refuses it by stage 7
-abbrev pub with_program : List ℕ → List Source → Tokens → (Checked → Plan) → Result Checked (Option ℕ) → Plan
-with_program entry sources tokens next (Ok checked) = next checked
-with_program entry sources tokens next (Err place) =
-    refuses (status.Source (form_fault entry sources tokens place))
-
 -- the status that tells a fault of the tokens' tree
 abbrev pub TreeRefused : List ℕ → List Source → Tokens → Status → Type 0
 TreeRefused entry sources tokens (status.Source given) =
     (fault : ParseFault) × Parsing tokens (Err fault) × (given ≡ tree_fault entry sources tokens fault)
 TreeRefused entry sources tokens status.OutOfMemory = Unit {0}
 TreeRefused entry sources tokens _ = ⊥
-
--- the status that tells that the tree is not of the form
-abbrev pub FormRefused : List ℕ → List Source → Tokens → Tree → Status → Type 0
-FormRefused entry sources tokens tree (status.Source given) =
-    (place : Option ℕ) × (program tokens tree ≡ Err place) × (given ≡ form_fault entry sources tokens place)
-FormRefused entry sources tokens tree status.OutOfMemory = Unit {0}
-FormRefused entry sources tokens tree _ = ⊥
 
 -- tokens have one answer of the parser
 abbrev pub OneTree : Type 0

@@ -1,16 +1,12 @@
-//! The tree of a program's tokens, and what it means where it is of the form that is built so far.
+//! The tree of a program's tokens.
 ghost use Rattle.std.specs.Prelude.{◌≡◌, ◌≤◌, Ok, length, IfOk, IfErr};
-ghost use Rattle.mql_mean.specs.Types.{Types};
 ghost use Rattle.mql_parse.specs.Parsed.{Parsing};
-ghost use Rattle.mql_level.specs.Level.{program};
 ghost use Rattle.tester_sources.specs.Faults.{TellsFault};
-ghost use Rattle.tester_sources.specs.Judging.{span_at, last_span, span_near, span_among, placed, TreeRefused, FormRefused};
+ghost use Rattle.tester_sources.specs.Judging.{span_at, last_span, span_near, placed, TreeRefused};
 ghost use Rattle.mql_source.specs.Limits.{most_tokens};
 
 use crate::fault::span_status;
 use fx8::{OutOfMemory, Text8};
-use mql_level::{LevelFault, read_level};
-use mql_mean::Checked;
 use mql_parse::{ParseFault, parse};
 use mql_preproc::Sources;
 use mql_tree::{Span, Tokens, Tree};
@@ -41,16 +37,6 @@ fn span_near(tokens: &Tokens, place: u32) -> Option<Span>
     match span_at(tokens, u64::from(place)) {
         Some(span) => Some(span),
         None => last_span(tokens),
-    }
-}
-
-// The place of the first token of a node, where it has one.
-fn span_among(tokens: &Tokens, place: Option<u32>) -> Option<Span>
-    ensures { result ≡ span_among tokens.now place }
-{
-    match place {
-        Some(place) => span_at(tokens, u64::from(place)),
-        None => None,
     }
 }
 
@@ -117,31 +103,5 @@ pub fn judge_tree(
             span_near(tokens, place),
         )),
         Err(ParseFault::OutOfMemory) => Err(Status::OutOfMemory),
-    }
-}
-
-/// What a tree means where it is of the form that is built so far, or the status of stage 7 that refuses it.
-pub fn judge_form(
-    alloc: Global,
-    entry: &Text8,
-    sources: &Sources,
-    tokens: &Tokens,
-    tree: &Tree,
-) -> Result<Checked, Status>
-    ensures checked { IfOk result (λ checked. program tokens.now tree.now ≡ Ok checked) }
-    ensures typed { IfOk result Types }
-    ensures refused { IfErr result (FormRefused entry.now sources.now tokens.now tree.now) }
-{
-    match read_level(alloc, tokens, tree) {
-        Ok(checked) => Ok(checked),
-        Err(LevelFault::Form(place)) => Err(placed(
-            alloc,
-            entry,
-            sources,
-            7,
-            1,
-            span_among(tokens, place),
-        )),
-        Err(LevelFault::OutOfMemory) => Err(Status::OutOfMemory),
     }
 }

@@ -1,8 +1,0 @@
-use Rattle.std.proofs.Common.{sym, ap, ◌∙◌}
-use Rattle.mql_level.specs.Leaves.{first_of}
-use Rattle.mql_level.proofs.Rows.{first_node}
-use Rattle.mql_level.proofs.leaf.+first.Goals as goal
-
-pub first-returns-in-Node : goal.first-returns-in-Node
-first-returns-in-Node t c =
-    rw c.in-Node.is (c.first_of.ensures ∙ ap first_of c.as_slice.ensures ∙ sym (first_node c.in-Node.form c.in-Node.parts))

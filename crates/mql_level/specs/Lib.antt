@@ -1,9 +1,0 @@
-pub mod Read
-pub mod Words
-pub mod Forms
-pub mod Leaves
-pub mod Locals
-pub mod Parts
-pub mod Numbers
-pub mod Statements
-pub mod Level

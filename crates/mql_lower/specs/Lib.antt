@@ -1,3 +1,0 @@
-pub mod Stands
-pub mod Draft
-pub mod Follows

@@ -1,4 +1,0 @@
-use Rattle.tester_cli.proofs.compiler.compile.Goals as goal
-
-pub judge_program-requires : goal.judge_program-requires
-judge_program-requires c = rw c.in-Ok-Tokens.field-0-is at c.in-Ok-Tokens.ensures.few
