@@ -29,18 +29,24 @@ pub removed_now : (x : Trial) (left more : List Quote) (quote : Quote) (s t : St
     (r : PassResult) → left ≡ quote ∷ more → Works x quote s h t → h ≡ None → t.state.removal ≡ true →
     Last (Finishes x (pos 0)) end.Removed t r → Rest x left s r
 removed_now x left more quote s t h r is works none removal last =
-    subst (λ q. Rest x q s r) (sym is)
-    (None, t, subst (λ h. Works x quote s h t) none works,
-    when_true _ (Rest x more t r) t.state.removal removal last)
+    subst (λ q. Rest x q s r) (sym is) (
+      None,
+      t,
+      subst (λ h. Works x quote s h t) none works,
+      when_true _ (Rest x more t r) t.state.removal removal last,
+    )
 
 -- the pass goes on
 pub goes_on : (x : Trial) (left more : List Quote) (quote : Quote) (s t : Stage) (h : Option PassEnd)
     (r : PassResult) → left ≡ quote ∷ more → Works x quote s h t → h ≡ None → t.state.removal ≡ false →
     Rest x more t r → Rest x left s r
 goes_on x left more quote s t h r is works none stays rest =
-    subst (λ q. Rest x q s r) (sym is)
-    (None, t, subst (λ h. Works x quote s h t) none works,
-    when_false (Last (Finishes x (pos 0)) end.Removed t r) _ t.state.removal stays rest)
+    subst (λ q. Rest x q s r) (sym is) (
+      None,
+      t,
+      subst (λ h. Works x quote s h t) none works,
+      when_false (Last (Finishes x (pos 0)) end.Removed t r) _ t.state.removal stays rest,
+    )
 
 -- all quotes were taken
 pub all_taken : (x : Trial) (left : List Quote) (s : Stage) (r : PassResult) → left ≡ [] →

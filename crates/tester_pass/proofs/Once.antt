@@ -66,9 +66,9 @@ module _ (talks : MeansTalks) (p : Checked) where
   calls_once : (e : Entry) (arg : ℤ) → One (Calls x e arg)
   calls_once e arg s r r' t t' c d =
       let o = told_once TesterStep world_is_function talks p e arg s.store s.steps s.state t.state t'.state r r'
-          t.store t'.store t.steps t'.steps
-          (record { made = c.made; got = c.got; turns = c.turns; holds = c.means })
-          (record { made = d.made; got = d.got; turns = d.turns; holds = d.means }) in
+      t.store t'.store t.steps t'.steps
+      (record { made = c.made; got = c.got; turns = c.turns; holds = c.means })
+      (record { made = d.made; got = d.got; turns = d.turns; holds = d.means }) in
       (o.0, same_stage t t' o.2 o.1 o.3 (c.quotes ∙ sym d.quotes) (c.loud ∙ sym d.loud))
 
   happens_once : (e : Entry) (arg : ℤ) → One (Happens x e arg)

@@ -112,7 +112,7 @@ module _ {W : Type 0} (may : W → HostCall → Answer → W → Type 0) where
   first_made talk call c before made got o is calls =
       let b = begins talk (before ++ call ∷ []) got in
       let all : before ++ (call ∷ b.0) ≡ before ++ (c ∷ made) =
-          sym (append_assoc before (call ∷ []) b.0) ∙ sym b.1 ∙ ap (λ (o : Outcome). o.world.calls) is ∙ calls in
+      sym (append_assoc before (call ∷ []) b.0) ∙ sym b.1 ∙ ap (λ (o : Outcome). o.world.calls) is ∙ calls in
       let same : call ∷ b.0 ≡ c ∷ made = append_cancel_left before (call ∷ b.0) (c ∷ made) all in
       cc
 
@@ -139,9 +139,9 @@ module _ {W : Type 0} (may : W → HostCall → Answer → W → Type 0) where
             → (made : List HostCall) (got : List Answer) (made' : List HostCall) (got' : List Answer)
             → Turns may w made got l.world → Turns may w made' got' l'.world
             → outcome (hear (Asks call n store onward) before got)
-                ≡ over_with (as_ended l.end) l.steps l.store (before ++ made) []
+            ≡ over_with (as_ended l.end) l.steps l.store (before ++ made) []
             → outcome (hear (Asks call n store onward) before got')
-                ≡ over_with (as_ended l'.end) l'.steps l'.store (before ++ made') []
+            ≡ over_with (as_ended l'.end) l'.steps l'.store (before ++ made') []
             → Same l l'
         asks each made [] made' got' t t' p q =
             absurd (unanswered before made call w l.world (ap (λ (o : Outcome). o.world.calls) p) t)
@@ -153,7 +153,7 @@ module _ {W : Type 0} (may : W → HostCall → Answer → W → Type 0) where
             let first = first_made (onward a) call c before made got _ p refl in
             let other = first_made (onward b) call d before made' got' _ q refl in
             let one = function w call a b t.0 t'.0 (subst (λ x. may w x a t.0) (sym first) t.1)
-                (subst (λ x. may w x b t'.0) (sym other) t'.1) in
+            (subst (λ x. may w x b t'.0) (sym other) t'.1) in
             each a t.0 l l'
             (record {
               made = made;

@@ -111,9 +111,12 @@ module _ (p : Checked) (code : Code) (stands : Stands p code) (follows : Follows
   rest_into : (quotes : List Quote) → ResultInto (Rest x quotes) (Rest y quotes)
   rest_into [] s r c =
       last_into (Finishes x (pos 1)) (Finishes y (pos 1)) (finishes_into (pos 1)) end.Completed s r c
-  rest_into (q ∷ more) s r c =
-      (c.0, c.1, works_into q s c.0 c.1 c.2,
-      onward_into (Rest x more) (Rest y more) (rest_into more) c.0 c.1 r c.3)
+  rest_into (q ∷ more) s r c = (
+    c.0,
+    c.1,
+    works_into q s c.0 c.1 c.2,
+    onward_into (Rest x more) (Rest y more) (rest_into more) c.0 c.1 r c.3,
+  )
 
   answered_into : (quotes : List Quote) (answer : ℤ) → ResultInto (Answered x quotes answer) (Answered y quotes answer)
   answered_into quotes answer s r c =

@@ -53,9 +53,11 @@ chosen_state false x y p q = q
 line_timed : (s : TesterState) (text : List ℕ) → Timed s → Timed (prints s text).state
 line_timed s text h =
     chosen (nat_le (journal_bytes s.prints + line_bytes text) most_bytes) (gives nothing (with_line s text))
-    (refuses PrintsExhausted s)
-    (h.0, All-push (λ (printed : Printed). IsReportTime printed.time_ms) s.prints
-    (record { time_ms = s.time; text = text }) h.1 h.0) h
+    (refuses PrintsExhausted s) (
+      h.0,
+      All-push (λ (printed : Printed). IsReportTime printed.time_ms) s.prints
+          (record { time_ms = s.time; text = text }) h.1 h.0,
+    ) h
 
 text_timed : (s : TesterState) (text : Option (List ℕ)) → Timed s → Timed (prints_text s text).state
 text_timed s None h = h

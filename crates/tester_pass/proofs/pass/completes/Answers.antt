@@ -9,9 +9,12 @@ use Rattle.tester_pass.proofs.pass.completes.Goals as goal
 pub returns-clause-passes : goal.returns-clause-passes
 returns-clause-passes c =
     let fits : FitsSigned w32 c.args.reason = search rules in
-    let finished = c.in_ok-halt.ensures in
-    (c.in_ok-halt.halt, stage c.finishes.new.run, simp to_z-of_z at finished,
-    c.ends_here.ensures ∙ ap (λ (e : PassEnd). ends_here e (stage c.finishes.new.run)) c.ended_by.ensures)
+    let finished = c.in_ok-halt.ensures in (
+      c.in_ok-halt.halt,
+      stage c.finishes.new.run,
+      simp to_z-of_z at finished,
+      c.ends_here.ensures ∙ ap (λ (e : PassEnd). ends_here e (stage c.finishes.new.run)) c.ended_by.ensures,
+    )
 
 pub returns-clause-times : goal.returns-clause-times
 returns-clause-times c =

@@ -10,9 +10,12 @@ use Rattle.tester_pass.proofs.pass.fails.Goals as goal
 pub returns-clause-passes : goal.returns-clause-passes
 returns-clause-passes c =
     let fits : FitsSigned w32 c.args.answer = search rules in
-    let ended = c.ended_by.ensures in
-    (c.in_ok-halt.halt, stage c.quits.new.run, c.in_ok-halt.ensures,
-    c.ends_here.ensures ∙ ap (λ (e : PassEnd). ends_here e (stage c.quits.new.run)) (simp to_z-of_z at ended))
+    let ended = c.ended_by.ensures in (
+      c.in_ok-halt.halt,
+      stage c.quits.new.run,
+      c.in_ok-halt.ensures,
+      c.ends_here.ensures ∙ ap (λ (e : PassEnd). ends_here e (stage c.quits.new.run)) (simp to_z-of_z at ended),
+    )
 
 pub returns-clause-times : goal.returns-clause-times
 returns-clause-times c =

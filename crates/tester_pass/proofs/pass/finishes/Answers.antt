@@ -13,7 +13,11 @@ returns c =
     let fits : FitsSigned w32 c.args.reason = search rules in
     let quitting = c.quits.ensures in
     IfOk-weaker c.quits.result _ _
-    (λ halt quits. (None, stage c.does.new.run,
-    subst (λ (h : Option PassEnd). Does x entry.Tester (pos 0) (stage c.args.run.now) h (stage c.does.new.run))
-    c.in_default.is c.in_ok-end.ensures, quits))
+    (λ halt quits. (
+      None,
+      stage c.does.new.run,
+      subst (λ (h : Option PassEnd). Does x entry.Tester (pos 0) (stage c.args.run.now) h (stage c.does.new.run))
+          c.in_default.is c.in_ok-end.ensures,
+      quits,
+    ))
     (simp to_z-of_z at quitting)
