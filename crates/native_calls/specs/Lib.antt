@@ -1,0 +1,4 @@
+pub mod Lent
+pub mod Written
+pub mod Outcomes
+pub mod Kinds
