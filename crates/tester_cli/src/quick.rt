@@ -64,7 +64,6 @@ fn market_of(alloc: Global, file: &str, bars: BarList) -> Result<Market, OutOfMe
 }
 
 // The report of code over the bars of a file.
-#[tactic(auto, using(crate::proofs::QuoteLemmas::reports_over))]
 fn report(alloc: Global, code: &Code, file: &str, bars: BarList) -> Result<Text8, OutOfMemory>
     requires bars { AreBars bars }
     requires paced { Paced code.now }
