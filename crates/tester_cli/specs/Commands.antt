@@ -34,8 +34,8 @@ with_bars name (Ok bars) next = next bars
 abbrev pub opening_quotes : List Bar → List Quote
 opening_quotes bars = heard (Some M1) None (bar_quotes None 5 bars)
 
--- the report of a pass over the bars at opening prices, for a symbol of 5 digits, with the inputs as the source
--- presets them; no file changes
+-- the report of a pass over the bars at opening prices, for a symbol of 5 digits, with the inputs as the
+-- source presets them; no file changes
 pub record Reports (checked : Checked) (bars : List Bar) (text : List ℕ) : Type 0 where
   pub result : PassResult
   pub passes : Passes (of_source checked) [] (opening_quotes bars) result

@@ -71,8 +71,8 @@ GoesOn (Some e) m B halt t = (halt ≡ Some e) × (t ≡ m)
 abbrev pub Then : Work → Work → Work
 Then A B s halt t = (h : Option PassEnd) × (m : Stage) × A s h m × GoesOn h m B halt t
 
--- a call of an event's function: for the calls that it makes of the tester, and the answers that it gets, which
--- are the tester's in turn, it comes to this end, and leaves this store and so many steps
+-- a call of an event's function: for the calls that it makes of the tester, and the answers that it gets,
+-- which are the tester's in turn, it comes to this end, and leaves this store and so many steps
 pub record Calls (x : Trial) (entry : Entry) (arg : ℤ) (s : Stage) (e : End) (t : Stage) : Type 0 where
   pub made : List HostCall
   pub got : List Answer
@@ -172,7 +172,7 @@ abbrev pub AfterStart : Trial → List Quote → Option PassEnd → Stage → Pa
 AfterStart x quotes None s result = Inits x quotes s result
 AfterStart x quotes (Some e) s result = result ≡ ends_here e s
 
--- before Start: a store whose inputs were set to these values, 50,000,000 steps for all calls, and nothing done
+-- before Start: a store whose inputs were set to these values, 50,000,000 steps for all calls, nothing done
 abbrev pub first_stage : List SetInput → Stage
 first_stage set =
     record { store = opening set; steps = 50000000; state = opening_state; quotes = 0; loud = 0 }

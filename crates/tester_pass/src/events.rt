@@ -88,7 +88,8 @@ pub(crate) fn does(
     run: &mut Run,
 ) -> Result<Option<PassEnd>, OutOfMemory>
     requires { Paced code.now }
-    ensures { IfOk result (λ halt. pass.Does (of_code code.now) entry arg (stage run.old) halt (stage run.new)) }
+    ensures { IfOk result (λ halt.
+        pass.Does (of_code code.now) entry arg (stage run.old) halt (stage run.new)) }
 {
     let end = happens(code, entry, arg, run)?;
     Ok(pass_end(end))

@@ -36,7 +36,8 @@ fn one_more(count: u64) -> Result<u64, OutOfMemory>
 /// The work of a quote: `OnTick` at a loud one.
 fn works(code: &Code, quote: &Quote, run: &mut Run) -> Result<Option<PassEnd>, OutOfMemory>
     requires { Paced code.now }
-    ensures { IfOk result (λ halt. pass.Works (of_code code.now) quote.now (stage run.old) halt (stage run.new)) }
+    ensures { IfOk result (λ halt.
+        pass.Works (of_code code.now) quote.now (stage run.old) halt (stage run.new)) }
 {
     run.quotes = one_more(run.quotes)?;
     if !quote.loud {
@@ -59,7 +60,8 @@ fn told(code: &Code, reason: i32, run: &mut Run) -> Result<Option<PassEnd>, OutO
 /// `OnDeinit` with its reason, and Stop.
 fn quits(code: &Code, reason: i32, run: &mut Run) -> Result<Option<PassEnd>, OutOfMemory>
     requires { Paced code.now }
-    ensures { IfOk result (λ halt. pass.Quits (of_code code.now) reason (stage run.old) halt (stage run.new)) }
+    ensures { IfOk result (λ halt.
+        pass.Quits (of_code code.now) reason (stage run.old) halt (stage run.new)) }
 {
     if let Some(end) = told(code, reason, run)? {
         return Ok(Some(end));
@@ -70,7 +72,8 @@ fn quits(code: &Code, reason: i32, run: &mut Run) -> Result<Option<PassEnd>, Out
 /// Behind the quotes: `OnTester`, and the end for a reason.
 fn finishes(code: &Code, reason: i32, run: &mut Run) -> Result<Option<PassEnd>, OutOfMemory>
     requires { Paced code.now }
-    ensures { IfOk result (λ halt. pass.Finishes (of_code code.now) reason (stage run.old) halt (stage run.new)) }
+    ensures { IfOk result (λ halt.
+        pass.Finishes (of_code code.now) reason (stage run.old) halt (stage run.new)) }
 {
     if let Some(end) = does(code, Entry::Tester, 0, run)? {
         return Ok(Some(end));
@@ -116,7 +119,8 @@ fn completes(code: &Code, reason: i32, end: PassEnd, run: Run) -> Result<PassRes
 #[tactic(auto, using(crate::proofs::Times::quit_timed))]
 fn fails(code: &Code, answer: i32, run: Run) -> Result<PassResult, OutOfMemory>
     requires { Paced code.now }
-    ensures passes { IfOk result (pass.Last (pass.Quits (of_code code.now) (pos 8)) (end.InitFailed answer) (stage run)) }
+    ensures passes { IfOk result
+        (pass.Last (pass.Quits (of_code code.now) (pos 8)) (end.InitFailed answer) (stage run)) }
     ensures times { IfOk result (λ r. StandsInTime (stage run) → InTime r) }
 {
     let mut run = run;
@@ -147,7 +151,8 @@ fn rest(code: &Code, left: Quotes<'_>, run: Run) -> Result<PassResult, OutOfMemo
 /// The pass behind an `OnInit` that did not fail.
 fn proceeds(code: &Code, left: Quotes<'_>, run: Run) -> Result<PassResult, OutOfMemory>
     requires { Paced code.now }
-    ensures passes { IfOk result (pass.Proceeds (of_code code.now) (pass.Rest (of_code code.now) left.entry) (stage run)) }
+    ensures passes { IfOk result
+        (pass.Proceeds (of_code code.now) (pass.Rest (of_code code.now) left.entry) (stage run)) }
     ensures times { IfOk result (λ r. StandsInTime (stage run) → InTime r) }
 {
     if run.world.removal_asked() {
@@ -238,11 +243,12 @@ fn whole(
 }
 
 /// A pass of code over the quotes of a market, with inputs that are set to these values: Start, `OnInit`,
-/// `OnTick` at each loud quote, `OnTester`, `OnDeinit` and Stop, with 50,000,000 steps for all calls together.
+/// `OnTick` at each loud quote, `OnTester`, `OnDeinit` and Stop, with 50,000,000 steps for all calls
+/// together.
 ///
 /// What it comes to is what the machine makes of the code; code that stands for a source passes as the source
-/// does (`code_passes_as_source`). It asks that the code spends steps, which lowering gives (MetaTrader 5 Help,
-/// Strategy Testing).
+/// does (`code_passes_as_source`). It asks that the code spends steps, which lowering gives (MetaTrader 5
+/// Help, Strategy Testing).
 pub fn run_pass(
     alloc: Global,
     code: &Code,
