@@ -27,7 +27,7 @@ use Rattle.stack_code.specs.Machine.{Back, Next, On, Halt, land, Taken, beside, 
 use Rattle.stack_validity.specs.Types.{ValueOf}
 use Rattle.stack_validity.specs.Fits.{OperandOf, OperandsOf, StoreFits, Leaves, Safe}
 use Rattle.stack_validity.specs.Rules.{Kinds, OneKind, Suits, Taking, Passes, with_result, GivesResult, simple_sort, JumpRule, CallRule, NativeRule, PlainRule, Leads}
-use Rattle.stack_validity.specs.Valid.{Valid}
+use Rattle.stack_validity.specs.Valid.{Typed}
 use Rattle.stack_validity.specs.Running.{Waits, Running, Runs}
 use Rattle.stack_validity.proofs.Stores.{give_safe, then_safe}
 use Rattle.stack_validity.proofs.Computing.{value_sort, holds_safe}
@@ -37,7 +37,7 @@ use Rattle.stack_validity.proofs.Calling.{reset_safe, leave_safe, enter_safe}
 use Rattle.stack_validity.proofs.Talking.{Comes, fault_sound}
 use Rattle.stack_validity.proofs.Natives.{SortOf, native_does}
 
-module _ (code : Code) (kinds : Kinds) (valid : Valid code kinds) (AtEnd : Store → Type 0) (to_end : (calls : List FunctionCode) (store : Store) → StoreFits code calls store → AtEnd store) where
+module _ (code : Code) (kinds : Kinds) (valid : Typed code kinds) (AtEnd : Store → Type 0) (to_end : (calls : List FunctionCode) (store : Store) → StoreFits code calls store → AtEnd store) where
   abbrev Good : Next → Type 0
   Good x = Runs code kinds AtEnd x
 
@@ -138,23 +138,26 @@ module _ (code : Code) (kinds : Kinds) (valid : Valid code kinds) (AtEnd : Store
         })))
 
     -- a native function that asks the world
-    given : (r : ResultType) (v : Value) (rest : List Operand) (below after : List OperandType) → GivesResult r below after → SortOf r v → Left below rest → Left after (upon (not (is_nothing r)) v rest)
-    given results.Void v rest below after e o h = subst (λ ks. Left ks rest) (sym e) h
-    given (results.Simple t) v rest below after e o h =
+    given : (r : ResultType) (v : Value) (rest : List Operand) (args below after : List OperandType) → GivesResult r args below after → SortOf r args v → Left below rest → Left after (upon (not (is_nothing r)) v rest)
+    given results.Void v rest args below after e o h = subst (λ ks. Left ks rest) (sym e) h
+    given (results.Simple t) v rest args below after e o h =
         subst (λ ks. Left ks (Val v ∷ rest)) (sym e.above)
         ((e.rule.value, of_type code AtEnd (c ∷ callers) ends_here e.kind.of (simple_sort t) v e.rule.sort o), h)
-    given results.Common v rest below after e o h = absurd e
-    given results.Pointer v rest below after e o h = absurd e
+    given results.Common v rest [] below after e o h = absurd e
+    given results.Common v rest (k ∷ args) below after e o h =
+        subst (λ ks. Left ks (Val v ∷ rest)) (sym e.above)
+        ((e.rule.result.value, of_type code AtEnd (c ∷ callers) ends_here e.kind.of e.rule.sort v e.rule.result.sort (o e.rule.sort e.rule.first.sort)), h)
+    given results.Pointer v rest args below after e o h = absurd e
 
     native : (f : Native) (m place : ℕ) (ks : List OperandType) (ops : List Operand) (n : ℕ) (w : World) → Taking m ks [] (λ xs rest. NativeRule kinds f k (place + 1) xs rest) → Left ks ops → Fit w.store → Good (asks f m k place ops backs n w)
     native f m place ks ops n w r h g =
         changed_lands Fit Fit _ (taking m ops) n w _
         (taking_safe code AtEnd c callers ends_here (λ xs rest. NativeRule kinds f k (place + 1) xs rest) Rest m ks ops r h)
         g (λ t n w s g.
-        landed Fit (SortOf (signature f).result) (calls_native f t.it n w) _
+        landed Fit (SortOf (signature f).result s.args) (calls_native f t.it n w) _
         ((native_does code AtEnd (c ∷ callers) ends_here f s.args t.it s.rule.answered s.taken).from n w g)
         (λ v n w o g. on (place + 1) s.rule.after (upon (not (native_void f)) v t.rest) w.store s.rule.goes_on
-        (given (signature f).result v t.rest s.below s.rule.after s.rule.gives o s.left) g))
+        (given (signature f).result v t.rest s.args s.below s.rule.after s.rule.gives o s.left) g))
 
     -- a function gives a value, or none
     abbrev GivesBack : Option VarType → Value → Type 0

@@ -30,7 +30,7 @@ one_from : (c : Cell) (v : Value) → out-Cell c ≡ Cell-F.One v → c ≡ cell
 unfolding roll-Cell denote.Hole.Carrier.roll
 one_from c v e = sym (roll-out-Cell c) ∙ ap roll-Cell e
 
-array_from : (c : Cell) (dynamic series : Bool) (unit cs : List Cell) → out-Cell c ≡ Cell-F.Array dynamic series unit cs → c ≡ cell.Array dynamic series unit cs
+pub array_from : (c : Cell) (dynamic series : Bool) (unit cs : List Cell) → out-Cell c ≡ Cell-F.Array dynamic series unit cs → c ≡ cell.Array dynamic series unit cs
 array_from c dynamic series unit cs e = sym (roll-out-Cell c) ∙ ap roll-Cell e ∙ rolls-Array dynamic series unit cs
 
 structure_from : (c : Cell) (cs : List Cell) → out-Cell c ≡ Cell-F.Structure cs → c ≡ cell.Structure cs

@@ -25,7 +25,7 @@ use Rattle.stack_code.specs.declared.code.Instruction.TheVariants as instruction
 use Rattle.stack_code.specs.Machine.{function_at, program_of}
 use Rattle.stack_code.specs.Paced.{PacedFunction, PacedAt}
 use Rattle.stack_validity.specs.Rules.{Kinds}
-use Rattle.stack_validity.specs.Valid.{Below, int_type, EntryFits, Leaves, Labelled, Fine, ValidFunction, Valid}
+use Rattle.stack_validity.specs.Valid.{Below, int_type, EntryFits, Leaves, Labelled, Fine, TypedFunction, Typed, ValidFunction, Valid}
 use Rattle.stack_validity.specs.Law.{NeverStuck}
 use Rattle.stack_validity.proofs.Values.{some_same, none_some}
 use Rattle.stack_validity.proofs.Whole.{never_stuck}
@@ -109,15 +109,15 @@ start_ends zero i e n = absurd (omega (arith, n))
 start_ends (suc zero) i e n = subst Leaves (some_same e) (tt {0})
 start_ends (suc (suc place)) i e n = absurd (none_some e)
 
+start_typed : TypedFunction code kinds (λ k. 0) 0 start
+start_typed = record { locals = λ l t e. absurd (none_some e); begins = refl; fine = start_fine }
+
 start_valid : ValidFunction code kinds (λ k. 0) 0 start
 start_valid = record {
-  locals = λ l t e. absurd (none_some e);
   parameters = λ l lt. absurd (omega (arith, lt));
   result = λ t e. absurd (none_some e);
-  begins = refl;
   labels = λ n l e. absurd (none_some e);
   known = start_known;
-  fine = start_fine;
   leaves = start_leaves;
   ends = start_ends;
 }
@@ -196,18 +196,23 @@ tick_labels : (n : ℕ) (l : Label) → slice_get tick.labels n ≡ Some l → k
 tick_labels zero l e = subst (λ (l : Label). kinds 1 l.place ≡ Some (reverse l.operands)) (some_same e) refl
 tick_labels (suc n) l e = absurd (none_some e)
 
+tick_typed : TypedFunction code kinds (λ k. 0) 1 tick
+tick_typed = record { locals = tick_locals; begins = refl; fine = tick_fine }
+
 tick_valid : ValidFunction code kinds (λ k. 0) 1 tick
 tick_valid = record {
-  locals = tick_locals;
   parameters = λ l lt. absurd (omega (arith, lt));
   result = λ t e. absurd (none_some e);
-  begins = refl;
   labels = tick_labels;
   known = tick_known;
-  fine = tick_fine;
   leaves = tick_leaves;
   ends = tick_ends;
 }
+
+functions_typed : (k : ℕ) (c : FunctionCode) → function_at code k ≡ Some c → TypedFunction code kinds (λ k. 0) k c
+functions_typed zero c e = subst (TypedFunction code kinds (λ k. 0) 0) (some_same e) start_typed
+functions_typed (suc zero) c e = subst (TypedFunction code kinds (λ k. 0) 1) (some_same e) tick_typed
+functions_typed (suc (suc k)) c e = absurd (none_some e)
 
 functions_valid : (k : ℕ) (c : FunctionCode) → function_at code k ≡ Some c → ValidFunction code kinds (λ k. 0) k c
 functions_valid zero c e = subst (ValidFunction code kinds (λ k. 0) 0) (some_same e) start_valid
@@ -247,17 +252,24 @@ paced zero c e = subst PacedFunction (some_same e) (record { begins = refl; jump
 paced (suc zero) c e = subst PacedFunction (some_same e) (record { begins = refl; jumps = tick_jumps })
 paced (suc (suc k)) c e = absurd (none_some e)
 
-valid : Valid code kinds
-valid = record {
+typed : Typed code kinds
+typed = record {
   nesting = record { height = λ k. 0; fields = λ k i t e. absurd (none_some e) };
-  parents = record { rank = λ k. 0; parents = λ k j c e. absurd (none_some e) };
-  methods = λ k j c p e. absurd (none_some e);
   globals = λ g t e. absurd (none_some e);
   inputs = λ i input e. absurd (none_some e);
   entries = entries_fit;
+  functions = functions_typed;
+}
+
+valid : Valid code kinds
+unfolding typed
+valid = record {
+  typed = typed;
+  parents = record { rank = λ k. 0; parents = λ k j c e. absurd (none_some e) };
+  methods = λ k j c p e. absurd (none_some e);
   functions = functions_valid;
   paced = record { functions = paced };
 }
 
 sample_never_stuck : NeverStuck code
-sample_never_stuck = never_stuck code kinds valid
+sample_never_stuck = never_stuck code kinds typed

@@ -20,7 +20,7 @@ use Rattle.stack_code.specs.Machine.{Next, On, Halt, land, head_of, starts, star
 use Rattle.stack_validity.specs.Types.{ValueOf}
 use Rattle.stack_validity.specs.Fits.{InputsFit, StoreFits, Fits, Sound, Faults, Leaves, Safe}
 use Rattle.stack_validity.specs.Rules.{Kinds, Passes}
-use Rattle.stack_validity.specs.Valid.{int_type, TakesOf, Valid}
+use Rattle.stack_validity.specs.Valid.{int_type, TakesOf, Typed}
 use Rattle.stack_validity.specs.Running.{Running, Runs}
 use Rattle.stack_validity.specs.Law.{Reached, NeverStuck}
 use Rattle.stack_validity.proofs.Values.{some_same, none_some}
@@ -31,7 +31,7 @@ use Rattle.stack_validity.proofs.Operating.{ArgumentsOf}
 use Rattle.stack_validity.proofs.Going.{changed_lands, all_go_on}
 use denote.Hole.Carrier.{out}
 
-module _ (code : Code) (kinds : Kinds) (valid : Valid code kinds) where
+module _ (code : Code) (kinds : Kinds) (valid : Typed code kinds) where
   -- the arguments of an event are those that its function takes
   record Arguments (e : Entry) (arg : ℤ) (c : FunctionCode) (AtEnd : Store → Type 0) (calls : List FunctionCode) (to_end : (store : Store) → StoreFits code calls store → AtEnd store) : Type 0 where
     kinds_are : List OperandType

@@ -11,6 +11,7 @@ use Rattle.natives.specs.declared.native.Native.TheVariants as natives
 use Rattle.natives.specs.declared.signature.Parameter.{Parameter}
 use Rattle.natives.specs.declared.signature.ParameterKind.{ParameterKind}
 use Rattle.natives.specs.declared.signature.ParameterKind.TheVariants as parameter
+use Rattle.natives.specs.declared.signature.Elements.TheVariants as elements
 use Rattle.natives.specs.declared.signature.Passing.{Passing}
 use Rattle.natives.specs.declared.signature.Passing.TheVariants as passing
 use Rattle.natives.specs.declared.signature.ResultType.{ResultType}
@@ -135,11 +136,11 @@ pub record Suits (s : Sort) (k : OperandType) : Type 0 where
   pub suits : suits s sort ≡ true
 
 -- an operand that is a value, or a place, of a type
-pub record Value' (t : VarType) (k : OperandType) : Type 0 where
+pub record ValueOfType (t : VarType) (k : OperandType) : Type 0 where
   pub value : k.place ≡ false
   pub of : k.of ≡ t
 
-pub record Place' (t : VarType) (k : OperandType) : Type 0 where
+pub record PlaceOfType (t : VarType) (k : OperandType) : Type 0 where
   pub place : k.place ≡ true
   pub of : k.of ≡ t
 
@@ -189,17 +190,17 @@ pub record IndexRule (x i y : OperandType) : Type 0 where
   pub sizes : List ℕ
   pub dimensions : x.of.dimensions ≡ size ∷ sizes
   pub number : Suits (sort.Number kind.Int) i
-  pub element : Place' (type_of x.of.base sizes) y
+  pub element : PlaceOfType (type_of x.of.base sizes) y
 
 -- a place becomes the value there; it gets a value of its own type, which stays
 pub record ReadRule (x y : OperandType) : Type 0 where
   pub place : x.place ≡ true
-  pub value : Value' x.of y
+  pub value : ValueOfType x.of y
 
 pub record KeepRule (v p y : OperandType) : Type 0 where
   pub value : v.place ≡ false
-  pub place : Place' v.of p
-  pub kept : Value' v.of y
+  pub place : PlaceOfType v.of p
+  pub kept : ValueOfType v.of y
 
 -- a place gets its value with an operator and another value; its type is converted into the operator's sort,
 -- and the result back
@@ -211,14 +212,14 @@ pub record UpdateRule (o : IntOperator) (s : Sort) (v p y : OperandType) : Type 
   pub into : converts own s ≡ true
   pub works : works_on o s ≡ true
   pub back : converts (result_sort o s) own ≡ true
-  pub updated : Value' p.of y
+  pub updated : ValueOfType p.of y
 
 pub record BumpRule (p y : OperandType) : Type 0 where
   pub place : p.place ≡ true
   pub own : Sort
   pub of : type_sort p.of ≡ Some own
   pub counted : is_counted own ≡ true
-  pub bumped : Value' p.of y
+  pub bumped : ValueOfType p.of y
 
 -- operators on values
 pub record UnaryRule (u : UnaryOperator) (s : Sort) (x y : OperandType) : Type 0 where
@@ -274,11 +275,11 @@ pub record Pushes (P : OperandType → Type 0) (ks after : List OperandType) : T
 -- a value and a place of its type; two places of one type
 pub record WriteRule (v p : OperandType) : Type 0 where
   pub value : v.place ≡ false
-  pub place : Place' v.of p
+  pub place : PlaceOfType v.of p
 
 pub record CopyRule (from to : OperandType) : Type 0 where
   pub place : from.place ≡ true
-  pub target : Place' from.of to
+  pub target : PlaceOfType from.of to
 
 -- locals that begin anew are there
 pub record ResetRule (c : FunctionCode) (a b : ℕ) : Type 0 where
@@ -316,10 +317,21 @@ simple_sort (simple.Integer k) = sort.Number k
 simple_sort simple.Double = sort.Double
 simple_sort simple.String = sort.String
 
-abbrev pub GivesResult : ResultType → List OperandType → List OperandType → Type 0
-GivesResult results.Void rest after = after ≡ rest
-GivesResult (results.Simple t) rest after = Pushes (OfSort (simple_sort t)) rest after
-GivesResult _ rest after = ⊥
+-- a value of the sort of the first argument
+pub record LikeFirst (k y : OperandType) : Type 0 where
+  pub sort : Sort
+  pub first : OfSort sort k
+  pub result : OfSort sort y
+
+abbrev pub GivesLike : List OperandType → List OperandType → List OperandType → Type 0
+GivesLike [] rest after = ⊥
+GivesLike (k ∷ ks) rest after = Pushes (LikeFirst k) rest after
+
+abbrev pub GivesResult : ResultType → List OperandType → List OperandType → List OperandType → Type 0
+GivesResult results.Void xs rest after = after ≡ rest
+GivesResult (results.Simple t) xs rest after = Pushes (OfSort (simple_sort t)) rest after
+GivesResult results.Common xs rest after = GivesLike xs rest after
+GivesResult results.Pointer xs rest after = ⊥
 
 -- the kinds of the operands before each instruction of each function, as far as they are known
 abbrev pub Kinds : Type 0
@@ -338,8 +350,8 @@ pub record CallRule (code : Code) (kinds : Kinds) (f k behind : ℕ) (ks : List 
       (λ xs rest. Passes callee.locals callee.lent xs
       × (kinds k behind ≡ Some (with_result callee.result rest)))
 
--- native functions that compute by values, and that change a string (MQL5 Reference, String Functions; Math
--- Functions; Conversion Functions; Checkup)
+-- native functions that compute by values, and that change a string or an array (MQL5 Reference, String
+-- Functions; Array Functions; Math Functions; Conversion Functions; Checkup)
 abbrev pub is_computed : Native → Bool
 is_computed natives.StringLen = true
 is_computed natives.StringSubstr = true
@@ -359,20 +371,38 @@ is_computed natives.DoubleToString = true
 is_computed natives.TimeToString = true
 is_computed natives.CharToString = true
 is_computed natives.ShortToString = true
+is_computed natives.ArraySize = true
+is_computed natives.ArrayRange = true
+is_computed natives.ArrayResize = true
+is_computed natives.ArrayFree = true
+is_computed natives.ArraySetAsSeries = true
+is_computed natives.ArrayGetAsSeries = true
+is_computed natives.ArrayIsDynamic = true
 is_computed natives.MathFloor = true
 is_computed natives.MathCeil = true
 is_computed natives.MathRound = true
+is_computed natives.MathSqrt = true
 is_computed natives.MathMod = true
+is_computed natives.MathPow = true
 is_computed natives.MathIsValidNumber = true
 is_computed natives.NormalizeDouble = true
 is_computed natives.IsStopped = true
 is_computed _ = false
 
--- an argument: a value that the parameter's type takes, or the place of a variable of the parameter's type
+-- the place of an array
+pub record ArrayPlace (k : OperandType) : Type 0 where
+  pub place : k.place ≡ true
+  pub size : ℕ
+  pub sizes : List ℕ
+  pub dimensions : k.of.dimensions ≡ size ∷ sizes
+
+-- an argument: a value that the parameter's type takes, the place of a variable of the parameter's type, or
+-- that of an array
 abbrev pub TakesParameter : ParameterKind → Passing → OperandType → Type 0
 TakesParameter (parameter.Simple t) passing.Value k = Suits (simple_sort t) k
 TakesParameter (parameter.Simple t) passing.Reference k =
     (k.place ≡ true) × (type_sort k.of ≡ Some (simple_sort t))
+TakesParameter (parameter.Array elements.Any) p k = ArrayPlace k
 TakesParameter _ _ k = ⊥
 
 abbrev pub TakesAll : List Parameter → List OperandType → Type 0
@@ -381,15 +411,55 @@ TakesAll [] (k ∷ ks) = ⊥
 TakesAll (p ∷ ps) [] = ⊥
 TakesAll (p ∷ ps) (k ∷ ks) = TakesParameter p.kind p.passing k × TakesAll ps ks
 
+-- values of which there may be any number: numbers, doubles and strings
+abbrev pub is_shown : Sort → Bool
+is_shown (sort.Number k) = true
+is_shown sort.Double = true
+is_shown sort.String = true
+is_shown sort.Pointer = false
+
+pub record Shown (k : OperandType) : Type 0 where
+  pub sort : Sort
+  pub of : OfSort sort k
+  pub shown : is_shown sort ≡ true
+
+abbrev pub AllShown : List OperandType → Type 0
+AllShown [] = Unit {0}
+AllShown (k ∷ ks) = Shown k × AllShown ks
+
+-- a number or a double, and two that are both the one or both the other
+pub record Counted (k : OperandType) : Type 0 where
+  pub sort : Sort
+  pub of : OfSort sort k
+  pub counted : is_counted sort ≡ true
+
+pub record BothCounted (k j : OperandType) : Type 0 where
+  pub first : Counted k
+  pub second : Suits first.sort j
+
+abbrev pub is_comparing : Native → Bool
+is_comparing natives.MathMax = true
+is_comparing natives.MathMin = true
+is_comparing _ = false
+
+-- a string, and behind it such values
+abbrev pub FormatShown : List OperandType → Type 0
+FormatShown [] = ⊥
+FormatShown (k ∷ ks) = Suits sort.String k × AllShown ks
+
 -- a native function asks the world, whatever it hands over, or computes by arguments of its signature
 pub data Answered (f : Native) (xs : List OperandType) : Type 0 where
+  Comments : (f ≡ natives.Comment) → AllShown xs → Answered f xs
+  Counts : (f ≡ natives.MathAbs) → OneKind Counted xs → Answered f xs
+  Compares : (is_comparing f ≡ true) → TwoKinds BothCounted xs → Answered f xs
+  Formats : (f ≡ natives.StringFormat) → FormatShown xs → Answered f xs
   ByWorld : (asks f ≡ true) → Answered f xs
   ByValues : (is_computed f ≡ true) → TakesAll (signature f).parameters xs → Answered f xs
 
 pub record NativeRule (kinds : Kinds) (f : Native) (k behind : ℕ) (xs rest : List OperandType) : Type 0 where
   pub answered : Answered f xs
   pub after : List OperandType
-  pub gives : GivesResult (signature f).result rest after
+  pub gives : GivesResult (signature f).result xs rest after
   pub goes_on : kinds k behind ≡ Some after
 
 pub record PlainRule (code : Code) (c : FunctionCode) (kinds : Kinds) (e : Effect) (k behind : ℕ)

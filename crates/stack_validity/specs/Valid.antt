@@ -124,22 +124,38 @@ pub record Fine (code : Code) (kinds : Kinds) (k : ℕ) (c : FunctionCode) (plac
   pub there : slice_get c.instructions place ≡ Some instruction
   pub leads : Leads code kinds k c place instruction ks
 
--- a function's code
-pub record ValidFunction (code : Code) (kinds : Kinds) (height : ℕ → ℕ) (k : ℕ)
+-- a function's code, as far as types go
+pub record TypedFunction (code : Code) (kinds : Kinds) (height : ℕ → ℕ) (k : ℕ)
     (c : FunctionCode) : Type 0 where
-  -- the types of its locals, of which there is one for each parameter, and of its value are of the table
+  -- the types of its locals are of the table
   pub locals : (l : ℕ) (t : VarType) → slice_get c.locals l ≡ Some t
       → Below height (length code.classes) t.base
+  -- it begins with no operand; where kinds are known an instruction stands, and is fine
+  pub begins : kinds k 0 ≡ Some []
+  pub fine : (place : ℕ) (ks : List OperandType) → kinds k place ≡ Some ks → Fine code kinds k c place ks
+
+-- code whose instructions find operands of the kinds that they take, wherever a run may come: this is what
+-- the law needs. Kinds may be unknown where no run comes
+pub record Typed (code : Code) (kinds : Kinds) : Type 0 where
+  pub nesting : Nesting code.classes
+  pub globals : (g : ℕ) (t : VarType) → slice_get code.globals g ≡ Some t
+      → Below nesting.height (length code.classes) t.base
+  pub inputs : (i : ℕ) (input : Input) → slice_get code.inputs i ≡ Some input → InputFits code input
+  pub entries : (e : Entry) (k : ℕ) → event (program_of code) e ≡ Some k → EntryFits code e k
+  pub functions : (k : ℕ) (c : FunctionCode) → function_at code k ≡ Some c
+      → TypedFunction code kinds nesting.height k c
+
+-- a function's code, as far as its tables and its form go
+pub record ValidFunction (code : Code) (kinds : Kinds) (height : ℕ → ℕ) (k : ℕ)
+    (c : FunctionCode) : Type 0 where
+  -- there is a local for each parameter, and the type of its value is of the table
   pub parameters : (l : ℕ) → l < length c.lent → (t : VarType) × (slice_get c.locals l ≡ Some t)
   pub result : (t : VarType) → c.result ≡ Some t → Below height (length code.classes) t.base
-  -- it begins with no operand; a label has the kinds that it says; each instruction has kinds, and each kind
-  -- an instruction, which is fine
-  pub begins : kinds k 0 ≡ Some []
+  -- a label has the kinds that it says; each instruction has kinds
   pub labels : (n : ℕ) (l : Label) → slice_get c.labels n ≡ Some l
       → kinds k l.place ≡ Some (reverse l.operands)
   pub known : (place : ℕ) (i : Instruction) → slice_get c.instructions place ≡ Some i
       → (ks : List OperandType) × (kinds k place ≡ Some ks)
-  pub fine : (place : ℕ) (ks : List OperandType) → kinds k place ≡ Some ks → Fine code kinds k c place ks
   -- what stands behind a jump or a return has a label, and the last instruction is one of the two
   pub leaves : (place : ℕ) (i : Instruction) → slice_get c.instructions place ≡ Some i → Leaves i
       → suc place < length c.instructions → Labelled c (suc place)
@@ -148,13 +164,9 @@ pub record ValidFunction (code : Code) (kinds : Kinds) (height : ℕ → ℕ) (k
 
 -- valid code, by the kinds of the operands before each instruction
 pub record Valid (code : Code) (kinds : Kinds) : Type 0 where
-  pub nesting : Nesting code.classes
+  pub typed : Typed code kinds
   pub parents : Parents code.classes
   pub methods : MethodsAgree code
-  pub globals : (g : ℕ) (t : VarType) → slice_get code.globals g ≡ Some t
-      → Below nesting.height (length code.classes) t.base
-  pub inputs : (i : ℕ) (input : Input) → slice_get code.inputs i ≡ Some input → InputFits code input
-  pub entries : (e : Entry) (k : ℕ) → event (program_of code) e ≡ Some k → EntryFits code e k
   pub functions : (k : ℕ) (c : FunctionCode) → function_at code k ≡ Some c
-      → ValidFunction code kinds nesting.height k c
+      → ValidFunction code kinds typed.nesting.height k c
   pub paced : Paced code
