@@ -35,7 +35,8 @@ use Rattle.stack_validity.proofs.Operating.{value_safe, one_safe, ArgumentsOf, o
 use Rattle.stack_validity.proofs.Effects.{taking_safe, effect_safe}
 use Rattle.stack_validity.proofs.Calling.{reset_safe, leave_safe, enter_safe}
 use Rattle.stack_validity.proofs.Talking.{Comes, fault_sound}
-use Rattle.stack_validity.proofs.Natives.{SortOf, native_does}
+use Rattle.stack_validity.proofs.Natives.{SortOf}
+use Rattle.stack_validity.proofs.Lending.{native_does}
 
 module _ (code : Code) (kinds : Kinds) (valid : Typed code kinds) (AtEnd : Store → Type 0) (to_end : (calls : List FunctionCode) (store : Store) → StoreFits code calls store → AtEnd store) where
   abbrev Good : Next → Type 0
@@ -149,10 +150,10 @@ module _ (code : Code) (kinds : Kinds) (valid : Typed code kinds) (AtEnd : Store
         ((e.rule.result.value, of_type code AtEnd (c ∷ callers) ends_here e.kind.of e.rule.sort v e.rule.result.sort (o e.rule.sort e.rule.first.sort)), h)
     given results.Pointer v rest args below after e o h = absurd e
 
-    native : (f : Native) (m place : ℕ) (ks : List OperandType) (ops : List Operand) (n : ℕ) (w : World) → Taking m ks [] (λ xs rest. NativeRule kinds f k (place + 1) xs rest) → Left ks ops → Fit w.store → Good (asks f m k place ops backs n w)
+    native : (f : Native) (m place : ℕ) (ks : List OperandType) (ops : List Operand) (n : ℕ) (w : World) → Taking m ks [] (λ xs rest. NativeRule code kinds f k (place + 1) xs rest) → Left ks ops → Fit w.store → Good (asks f m k place ops backs n w)
     native f m place ks ops n w r h g =
         changed_lands Fit Fit _ (taking m ops) n w _
-        (taking_safe code AtEnd c callers ends_here (λ xs rest. NativeRule kinds f k (place + 1) xs rest) Rest m ks ops r h)
+        (taking_safe code AtEnd c callers ends_here (λ xs rest. NativeRule code kinds f k (place + 1) xs rest) Rest m ks ops r h)
         g (λ t n w s g.
         landed Fit (SortOf (signature f).result s.args) (calls_native f t.it n w) _
         ((native_does code AtEnd (c ∷ callers) ends_here f s.args t.it s.rule.answered s.taken).from n w g)

@@ -35,7 +35,7 @@ use Rattle.mql_meaning.specs.declared.types.Sort.{Sort}
 use Rattle.mql_meaning.specs.declared.types.Sort.TheVariants as sort
 use Rattle.mql_meaning.specs.declared.types.VarType.{VarType}
 use Rattle.mql_meaning.specs.Changes.{Stopped, Change, after, then_some, either, fail, the, for_each, Out, Done, Over}
-use Rattle.mql_meaning.specs.Runs.{World, world, Res, Go, End, Act}
+use Rattle.mql_meaning.specs.Runs.{World, world, Act}
 use Rattle.mql_meaning.specs.Operands.{Operand, Val, At}
 use Rattle.mql_meaning.specs.Operators.{sort_of, string_of, units_of, no_fault}
 use Rattle.mql_meaning.specs.Places.{number_of, value_at}
@@ -50,7 +50,7 @@ use Rattle.stack_code.specs.declared.code.FunctionCode.{FunctionCode}
 use Rattle.stack_code.specs.declared.code.OperandType.{OperandType}
 use Rattle.stack_validity.specs.Types.{base_sort, plain_sort, type_sort, OfSort, TopOf, StructureTop, CellOf, part_by, Layer}
 use Rattle.stack_validity.specs.Fits.{OperandOf, StoreFits, Safe, Leaves}
-use Rattle.stack_validity.specs.Rules.{suits, simple_sort, is_computed, TakesParameter, TakesAll, Answered, ByWorld, ByValues, ArrayPlace, AllShown, FormatShown, Comments, Formats, is_counted, is_comparing, Counted, BothCounted, OneKind, TwoKinds, Counts, Compares}
+use Rattle.stack_validity.specs.Rules.{suits, simple_sort, is_computed, TakesParameter, TakesAll, ArrayPlace, AllShown, FormatShown, is_counted, is_comparing, Counted, BothCounted, OneKind, TwoKinds}
 use Rattle.stack_validity.proofs.Values.{none_some, one_of, some_same, array_kept, sort_is}
 use Rattle.stack_validity.proofs.Keeps.{array_from}
 use Rattle.mql_meaning.specs.ArrayFunctions.{ArrayParts, array_at, array_of, rebuilt, added, resized, range}
@@ -63,7 +63,7 @@ use Rattle.stack_validity.proofs.Cells.{layer_of, out_array}
 use Rattle.stack_validity.proofs.Stores.{give_safe, then_safe, the_safe, cell_safe, replace_safe, fail_safe}
 use Rattle.stack_validity.proofs.Computing.{value_sort, has_part, text_safe, no_fault_safe}
 use Rattle.stack_validity.proofs.Operating.{ArgumentsOf}
-use Rattle.stack_validity.proofs.Talking.{Comes, Does, then_does, next_does, change_does, pure_does, halt_does, choose_not, OfResult, result_sort, asks_does}
+use Rattle.stack_validity.proofs.Talking.{Comes, Does, then_does, next_does, change_does, pure_does, halt_does, choose_not, OfResult, result_sort}
 
 -- a value of the sort of a result
 abbrev LikeSort : List OperandType → Value → Type 0
@@ -76,7 +76,7 @@ SortOf (results.Simple t) ks v = sort_of v ≡ Some (simple_sort t)
 SortOf results.Common ks v = LikeSort ks v
 SortOf results.Pointer ks v = ⊥
 
-of_sort : (r : ResultType) (ks : List OperandType) (v : Value) → OfResult r v → SortOf r ks v
+pub of_sort : (r : ResultType) (ks : List OperandType) (v : Value) → OfResult r v → SortOf r ks v
 of_sort results.Void ks v e = tt
 of_sort (results.Simple t) ks v e = result_sort t v e
 of_sort results.Common ks v e = absurd cc
@@ -125,7 +125,7 @@ module _ (code : Code) (AtEnd J : Store → Type 0) (to_end : (store : Store) �
   abbrev Any : {A : Type 0} → A → Type 0
   Any a = Unit {0}
 
-  number_safe : (k : IntKind) (o : OperandType) (x : Argument) → IsArgument code (parameter.Simple (simple.Integer k)) passing.Value o x → C Any (a_number x)
+  pub number_safe : (k : IntKind) (o : OperandType) (x : Argument) → IsArgument code (parameter.Simple (simple.Integer k)) passing.Value o x → C Any (a_number x)
   number_safe k o (Given v) h = then_safe code AtEnd (give_safe code AtEnd {P = λ w. v ≡ w} v refl) (λ w e. let p = has_part (sort.Number k) h.0 v h.1 h.2 in the_safe code AtEnd (number_of w) p.0 (ap number_of (sym e) ∙ p.1) (tt {0}))
   number_safe k o (Lent c) h = absurd h
 
@@ -133,7 +133,7 @@ module _ (code : Code) (AtEnd J : Store → Type 0) (to_end : (store : Store) �
   double_safe o (Given v) h = then_safe code AtEnd (give_safe code AtEnd {P = λ w. v ≡ w} v refl) (λ w e. let p = has_part sort.Double h.0 v h.1 h.2 in the_safe code AtEnd (units_of w) p.0 (ap units_of (sym e) ∙ p.1) (tt {0}))
   double_safe o (Lent c) h = absurd h
 
-  string_safe : (o : OperandType) (x : Argument) → IsArgument code (parameter.Simple simple.String) passing.Value o x → C Any (a_string x)
+  pub string_safe : (o : OperandType) (x : Argument) → IsArgument code (parameter.Simple simple.String) passing.Value o x → C Any (a_string x)
   string_safe o (Given v) h = then_safe code AtEnd (give_safe code AtEnd {P = λ w. v ≡ w} v refl) (λ w e. let p = has_part sort.String h.0 v h.1 h.2 in the_safe code AtEnd (string_of w) p.0 (ap string_of (sym e) ∙ p.1) (tt {0}))
   string_safe o (Lent c) h = absurd h
 
@@ -161,7 +161,7 @@ module _ (code : Code) (AtEnd J : Store → Type 0) (to_end : (store : Store) �
   unfolding out-Value denote.Hole.Carrier.out
   double_sort x = refl
 
-  number_sort : (k : IntKind) (x : ℤ) → sort_of (value.Num k x) ≡ Some (sort.Number k)
+  pub number_sort : (k : IntKind) (x : ℤ) → sort_of (value.Num k x) ≡ Some (sort.Number k)
   unfolding out-Value denote.Hole.Carrier.out
   number_sort k x = refl
 
@@ -378,11 +378,11 @@ module _ (code : Code) (AtEnd J : Store → Type 0) (to_end : (store : Store) �
   math_pow ks xs h = two_arguments (DoneBy natives.MathPow) (val simple.Double) (val simple.Double) a_double a_double _ ks xs h double_safe double_safe (λ o q x y e. then_safe code AtEnd (power_safe x y) (λ z u. gives_double_safe _ _ z))
 
   -- an array of a type
-  record ArrayOf (k : OperandType) (a : ArrayParts) : Type 0 where
-    is : ArrayPlace k
-    fits : CellOf code.classes k.of (rebuilt a)
+  pub record ArrayOf (k : OperandType) (a : ArrayParts) : Type 0 where
+    pub is : ArrayPlace k
+    pub fits : CellOf code.classes k.of (rebuilt a)
 
-  array_safe : (pp : Passing) (k : OperandType) (x : Argument) → IsArgument code (parameter.Array elements.Any) pp k x → C (ArrayOf k) (an_array x)
+  pub array_safe : (pp : Passing) (k : OperandType) (x : Argument) → IsArgument code (parameter.Array elements.Any) pp k x → C (ArrayOf k) (an_array x)
   array_safe pp k (Given v) h = absurd h
   array_safe pp k (Lent c) h = then_safe code AtEnd (give_safe code AtEnd {P = λ d. c ≡ d} c refl) (λ d e. subst (λ d. C (ArrayOf k) (the (array_of d))) e (parts (out-Cell c) refl))
     where
@@ -443,7 +443,7 @@ module _ (code : Code) (AtEnd J : Store → Type 0) (to_end : (store : Store) �
   dynamic_not : (a : ArrayParts) → a.dynamic ≡ true → {B : Type 0} → a.dynamic ≡ false → B
   dynamic_not a e g = let x : true ≡ false = sym e ∙ g in absurd cc
 
-  resized_fits : (k : OperandType) (a : ArrayParts) (n : ℕ) → ArrayOf k a → a.dynamic ≡ true → CellOf code.classes k.of (rebuilt (resized n a))
+  pub resized_fits : (k : OperandType) (a : ArrayParts) (n : ℕ) → ArrayOf k a → a.dynamic ≡ true → CellOf code.classes k.of (rebuilt (resized n a))
   resized_fits k a n h e =
       array_again k a a.series (take n a.cells ++ added a.unit (n - length a.cells)) h (dynamic_not a e)
       (λ P items units i c there. all_joined P (take n a.cells) (added a.unit (n - length a.cells)) (all_taken P n a.cells items) (all_added P a.unit (n - length a.cells) units) i c there)
@@ -565,7 +565,7 @@ computed_asks natives.MathSqrt e = refl
 computed_asks natives.MathPow e = refl
 computed_asks _ e = absurd cc
 
-true_false : {A : Type 0} → true ≡ false → A
+pub true_false : {A : Type 0} → true ≡ false → A
 true_false e = absurd cc
 
 -- a cell of a type that has a sort holds a value of it
@@ -601,7 +601,7 @@ module _ (code : Code) (AtEnd : Store → Type 0) (calls : List FunctionCode) (t
   A' P f = Does AtEnd (StoreFits code calls) P f
 
   -- the cells of the places among operands
-  abbrev CellsOf : List OperandType → List Operand → List Cell → Type 0
+  abbrev pub CellsOf : List OperandType → List Operand → List Cell → Type 0
   CellsOf [] [] [] = Unit {0}
   CellsOf [] [] (c ∷ cs) = ⊥
   CellsOf [] (x ∷ xs) cs = ⊥
@@ -610,7 +610,7 @@ module _ (code : Code) (AtEnd : Store → Type 0) (calls : List FunctionCode) (t
   CellsOf (k ∷ ks) (At p ∷ xs) [] = ⊥
   CellsOf (k ∷ ks) (At p ∷ xs) (c ∷ cs) = CellOf code.classes k.of c × CellsOf ks xs cs
 
-  cells_of : (ks : List OperandType) (xs : List Operand) → ArgumentsOf code AtEnd calls to_end ks xs → S (CellsOf ks xs) (cells_at (places_in xs))
+  pub cells_of : (ks : List OperandType) (xs : List Operand) → ArgumentsOf code AtEnd calls to_end ks xs → S (CellsOf ks xs) (cells_at (places_in xs))
   cells_of [] [] h = give_safe code AtEnd [] (tt {0})
   cells_of [] (x ∷ xs) h = absurd (let e : (x ∷ xs) ≡ [] = h in cc)
   cells_of (k ∷ ks) [] h = absurd h
@@ -643,7 +643,7 @@ module _ (code : Code) (AtEnd : Store → Type 0) (calls : List FunctionCode) (t
   are_arguments (p ∷ ps) (k ∷ ks) (At q ∷ xs) (c ∷ cs) r h g = (place_argument p.kind p.passing k q c r.0 h.0 g.0, are_arguments ps ks xs cs r.1 h.1 g.1)
 
   -- what they become is put back
-  put_nothing : (ps : List Place) (cs : List Cell) → S (λ _. Unit {0}) (put_at ps cs [])
+  pub put_nothing : (ps : List Place) (cs : List Cell) → S (λ _. Unit {0}) (put_at ps cs [])
   put_nothing [] cs = give_safe code AtEnd (tt {0}) (tt {0})
   put_nothing (p ∷ ps) [] = give_safe code AtEnd (tt {0}) (tt {0})
   put_nothing (p ∷ ps) (c ∷ cs) = give_safe code AtEnd (tt {0}) (tt {0})
@@ -679,7 +679,7 @@ module _ (code : Code) (AtEnd : Store → Type 0) (calls : List FunctionCode) (t
   unfolding ask
   ask_tells c = record { from = λ n w g. told_answer c w.answers n w g }
 
-  tells_does : (b : Bool) → A' (λ _. Unit {0}) (tells b)
+  pub tells_does : (b : Bool) → A' (λ _. Unit {0}) (tells b)
   tells_does true = next_does (ask_tells _) (pure_does (tt {0}) (tt {0}))
   tells_does false = pure_does (tt {0}) (tt {0})
 
@@ -695,7 +695,7 @@ module _ (code : Code) (AtEnd : Store → Type 0) (calls : List FunctionCode) (t
       then_does (change_does (cells_of ks xs h)) (λ cs g.
       choose_not (asks f) (ask (Some f) (host_call (native_number f) (values_of (arguments xs cs)) cs) (places_in xs) cs) (does_native (places_in xs) cs (computes f (arguments xs cs))) (computed_asks f e) (value_does f ks xs cs e r h g))
 
-  values_do : (f : Native) (ks : List OperandType) (xs : List Operand) → is_computed f ≡ true → TakesAll (signature f).parameters ks → ArgumentsOf code AtEnd calls to_end ks xs → A' (SortOf (signature f).result ks) (calls_native f xs)
+  pub values_do : (f : Native) (ks : List OperandType) (xs : List Operand) → is_computed f ≡ true → TakesAll (signature f).parameters ks → ArgumentsOf code AtEnd calls to_end ks xs → A' (SortOf (signature f).result ks) (calls_native f xs)
   values_do natives.GetPointer ks xs e r h = absurd cc
   values_do natives.CheckPointer ks xs e r h = absurd cc
   values_do f ks xs e r h = runs_values f ks xs e r h
@@ -731,7 +731,7 @@ module _ (code : Code) (AtEnd : Store → Type 0) (calls : List FunctionCode) (t
       next_does (change_does (subst (λ outs. S (λ _. Unit {0}) (put_at (places_in xs) cs outs)) (sym o.outs) (put_nothing (places_in xs) cs)))
       (next_does (tells_does d.out_of_range) (pure_does d.value o.value)))))
 
-  comment_does : (ks : List OperandType) (xs : List Operand) → ArgumentsOf code AtEnd calls to_end ks xs → A' (SortOf (signature natives.Comment).result ks) (calls_native natives.Comment xs)
+  pub comment_does : (ks : List OperandType) (xs : List Operand) → ArgumentsOf code AtEnd calls to_end ks xs → A' (SortOf (signature natives.Comment).result ks) (calls_native natives.Comment xs)
   comment_does ks xs h = alone_does natives.Comment ks xs comment_asks h (λ cs g. give_safe code AtEnd _ (record { value = comment_sort ks void_value; outs = refl }))
 
   -- values alone
@@ -771,7 +771,7 @@ module _ (code : Code) (AtEnd : Store → Type 0) (calls : List FunctionCode) (t
       by_result (Ok t) = texts_safe ks t
       by_result (Err e) = fault_fails ks e
 
-  format_does : (ks : List OperandType) (xs : List Operand) → FormatShown ks → ArgumentsOf code AtEnd calls to_end ks xs → A' (SortOf (signature natives.StringFormat).result ks) (calls_native natives.StringFormat xs)
+  pub format_does : (ks : List OperandType) (xs : List Operand) → FormatShown ks → ArgumentsOf code AtEnd calls to_end ks xs → A' (SortOf (signature natives.StringFormat).result ks) (calls_native natives.StringFormat xs)
   format_does [] xs r h = absurd r
   format_does (k ∷ ks) [] r h = absurd h
   format_does (k ∷ ks) (At p ∷ xs) r h = true_false (sym h.0.0 ∙ r.0.of.value)
@@ -864,7 +864,7 @@ module _ (code : Code) (AtEnd : Store → Type 0) (calls : List FunctionCode) (t
       by_out (Done d store) h = (record { value = k d.value h.0.value; outs = h.0.outs }, h.1)
       by_out (Over e store) h = h
 
-  counts_does : (ks : List OperandType) (xs : List Operand) → OneKind Counted ks → ArgumentsOf code AtEnd calls to_end ks xs → A' (SortOf (signature natives.MathAbs).result ks) (calls_native natives.MathAbs xs)
+  pub counts_does : (ks : List OperandType) (xs : List Operand) → OneKind Counted ks → ArgumentsOf code AtEnd calls to_end ks xs → A' (SortOf (signature natives.MathAbs).result ks) (calls_native natives.MathAbs xs)
   counts_does [] xs r h = absurd r
   counts_does (k ∷ j ∷ ks) xs r h = absurd r
   counts_does (k ∷ []) [] r h = absurd h
@@ -890,20 +890,7 @@ module _ (code : Code) (AtEnd : Store → Type 0) (calls : List FunctionCode) (t
       (sorted_alone r.first.sort (λ u i. b (k ∷ j ∷ []) u (like k (j ∷ []) r.first.sort u r.first.of.sort i))
       (two_sized go r.first.sort r.second.sort v w r.first.counted r.second.suits (value_sort code.classes k.of r.first.sort v h.0.1 r.first.of.sort) (value_sort code.classes j.of r.second.sort w h.1.0.1 r.second.of.sort))))
 
-  compares_do : (f : Native) (ks : List OperandType) (xs : List Operand) → is_comparing f ≡ true → TwoKinds BothCounted ks → ArgumentsOf code AtEnd calls to_end ks xs → A' (SortOf (signature f).result ks) (calls_native f xs)
+  pub compares_do : (f : Native) (ks : List OperandType) (xs : List Operand) → is_comparing f ≡ true → TwoKinds BothCounted ks → ArgumentsOf code AtEnd calls to_end ks xs → A' (SortOf (signature f).result ks) (calls_native f xs)
   compares_do natives.MathMax ks xs e r h = two_does natives.MathMax greater ks xs r h max_asks max_sort (λ v w. refl)
   compares_do natives.MathMin ks xs e r h = two_does natives.MathMin lesser ks xs r h min_asks min_sort (λ v w. refl)
   compares_do _ ks xs e r h = absurd cc
-
-  sorted_comes : (r : ResultType) (ks : List OperandType) (o : Res Value) → Comes AtEnd (StoreFits code calls) (OfResult r) o → Comes AtEnd (StoreFits code calls) (SortOf r ks) o
-  sorted_comes r ks (Go v n w) h = (of_sort r ks v h.0, h.1)
-  sorted_comes r ks (End e n w) h = h
-
-  -- a call of a native function
-  pub native_does : (f : Native) (ks : List OperandType) (xs : List Operand) → Answered f ks → ArgumentsOf code AtEnd calls to_end ks xs → A' (SortOf (signature f).result ks) (calls_native f xs)
-  native_does f ks xs (ByWorld e) h = record { from = λ n w g. sorted_comes (signature f).result ks (calls_native f xs n w) ((asks_does code AtEnd calls to_end f ks xs e h).from n w g) }
-  native_does f ks xs (ByValues e r) h = values_do f ks xs e r h
-  native_does f ks xs (Comments e r) h = subst (λ f. A' (SortOf (signature f).result ks) (calls_native f xs)) (sym e) (comment_does ks xs h)
-  native_does f ks xs (Formats e r) h = subst (λ f. A' (SortOf (signature f).result ks) (calls_native f xs)) (sym e) (format_does ks xs r h)
-  native_does f ks xs (Counts e r) h = subst (λ f. A' (SortOf (signature f).result ks) (calls_native f xs)) (sym e) (counts_does ks xs r h)
-  native_does f ks xs (Compares e r) h = compares_do f ks xs e r h

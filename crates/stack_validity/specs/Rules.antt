@@ -1,7 +1,7 @@
 -- What instructions take and give, by the kinds of operands (MQL5 Reference, Language Basics, Operations and
 -- Expressions; Typecasting). Lists of kinds have the topmost operand's first; those of an operator have it
 -- last.
-use Rattle.std.specs.Prelude.{◌≡◌, ◌≤◌, ℕ, zero, suc, ◌+◌, Bool, true, false, List, [], ◌∷◌, length, Option, Some, None, slice_get}
+use Rattle.std.specs.Prelude.{◌≡◌, ◌≤◌, ℕ, zero, suc, ◌+◌, Bool, true, false, List, [], ◌∷◌, length, replicate, Option, Some, None, slice_get}
 use Rattle.fx8.specs.declared.int_kind.IntKind.TheVariants as kind
 use Rattle.fx8.specs.declared.int_operator.IntOperator.{IntOperator}
 use Rattle.fx8.specs.declared.int_operator.IntOperator.TheVariants as op
@@ -23,10 +23,14 @@ use Rattle.mql_meaning.specs.declared.operator.Operator.{Operator}
 use Rattle.mql_meaning.specs.declared.operator.Operator.TheVariants as operator
 use Rattle.mql_meaning.specs.declared.operator.UnaryOperator.{UnaryOperator}
 use Rattle.mql_meaning.specs.declared.operator.UnaryOperator.TheVariants as unary
+use Rattle.mql_meaning.specs.declared.tree.Class.{Class}
+use Rattle.mql_meaning.specs.declared.types.Base.{Base}
+use Rattle.mql_meaning.specs.declared.types.Base.TheVariants as base
 use Rattle.mql_meaning.specs.declared.types.Sort.{Sort}
 use Rattle.mql_meaning.specs.declared.types.Sort.TheVariants as sort
 use Rattle.mql_meaning.specs.declared.types.VarType.{VarType}
 use Rattle.mql_meaning.specs.Changes.{either}
+use Rattle.mql_meaning.specs.Cells.{fields_of}
 use Rattle.mql_meaning.specs.Operators.{compares, sort_of}
 use Rattle.mql_meaning.specs.Calls.{asks, is_sound}
 use Rattle.stack_code.specs.declared.code.Code.{Code}
@@ -37,7 +41,7 @@ use Rattle.stack_code.specs.declared.code.Effect.TheVariants as effect
 use Rattle.stack_code.specs.declared.code.Instruction.{Instruction}
 use Rattle.stack_code.specs.declared.code.Instruction.TheVariants as instruction
 use Rattle.stack_code.specs.Machine.{operands_of, function_at, label_at, arguments_of}
-use Rattle.stack_validity.specs.Types.{type_of, type_sort, part_type}
+use Rattle.stack_validity.specs.Types.{type_of, base_sort, type_sort, part_type}
 
 -- the operators that doubles have beside the comparisons, and those that strings have
 abbrev pub is_arithmetic : IntOperator → Bool
@@ -159,6 +163,17 @@ TwoKinds P [] = ⊥
 TwoKinds P (x ∷ []) = ⊥
 TwoKinds P (x ∷ y ∷ []) = P x y
 TwoKinds P (x ∷ y ∷ z ∷ xs) = ⊥
+
+-- three, and five
+abbrev pub ThreeKinds : (OperandType → OperandType → OperandType → Type 0) → List OperandType → Type 0
+ThreeKinds P [] = ⊥
+ThreeKinds P (x ∷ xs) = TwoKinds (P x) xs
+
+abbrev pub FiveKinds : (OperandType → OperandType → OperandType → OperandType → OperandType → Type 0)
+    → List OperandType → Type 0
+FiveKinds P [] = ⊥
+FiveKinds P (x ∷ []) = ⊥
+FiveKinds P (x ∷ y ∷ xs) = ThreeKinds (P x y) xs
 
 -- so many kinds are taken; there is a rule for them, in the order in which they were pushed, and for those
 -- below
@@ -447,17 +462,96 @@ abbrev pub FormatShown : List OperandType → Type 0
 FormatShown [] = ⊥
 FormatShown (k ∷ ks) = Suits sort.String k × AllShown ks
 
--- a native function asks the world, whatever it hands over, or computes by arguments of its signature
-pub data Answered (f : Native) (xs : List OperandType) : Type 0 where
-  Comments : (f ≡ natives.Comment) → AllShown xs → Answered f xs
-  Counts : (f ≡ natives.MathAbs) → OneKind Counted xs → Answered f xs
-  Compares : (is_comparing f ≡ true) → TwoKinds BothCounted xs → Answered f xs
-  Formats : (f ≡ natives.StringFormat) → FormatShown xs → Answered f xs
-  ByWorld : (asks f ≡ true) → Answered f xs
-  ByValues : (is_computed f ≡ true) → TakesAll (signature f).parameters xs → Answered f xs
+-- the place of an array of numbers or of doubles
+pub record NumbersPlace (k : OperandType) : Type 0 where
+  pub array : ArrayPlace k
+  pub sort : Sort
+  pub of : base_sort k.of.base ≡ Some sort
+  pub counted : is_counted sort ≡ true
 
-pub record NativeRule (kinds : Kinds) (f : Native) (k behind : ℕ) (xs rest : List OperandType) : Type 0 where
-  pub answered : Answered f xs
+-- elements are copied to others of the same type, and numbers and doubles to each other
+pub data Copied (target source : Base) : Type 0 where
+  Same : (source ≡ target) → Copied target source
+  AsNumbers : (s t : Sort) → (base_sort target ≡ Some s) → (base_sort source ≡ Some t)
+      → (is_counted s ≡ true) → (is_counted t ≡ true) → Copied target source
+
+-- the place of an array of strings with one dimension
+pub record StringsPlace (k : OperandType) : Type 0 where
+  pub place : k.place ≡ true
+  pub size : ℕ
+  pub of : k.of ≡ type_of base.String (size ∷ [])
+
+-- a structure of eight `int` fields, as `MqlDateTime` is
+pub record TimeStructure (classes : List Class) (t : VarType) : Type 0 where
+  pub class : ℕ
+  pub is : t ≡ type_of (base.Structure class) []
+  pub fields : fields_of (slice_get classes class) ≡ replicate 8 (type_of (base.Number kind.Int) [])
+
+-- an array of numbers, the place of an element and a number of elements
+pub record ExtremeRule (a i n : OperandType) : Type 0 where
+  pub array : NumbersPlace a
+  pub start : Suits (sort.Number kind.Int) i
+  pub count : Suits (sort.Number kind.Int) n
+
+-- an array of numbers, and the number that each element gets
+pub record InitializeRule (a v : OperandType) : Type 0 where
+  pub array : NumbersPlace a
+  pub value : Counted v
+
+-- the array that gets elements and the one that they are from, where they begin in both, and how many there
+-- are
+pub record CopyArrayRule (a b i j n : OperandType) : Type 0 where
+  pub target : ArrayPlace a
+  pub source : ArrayPlace b
+  pub elements : Copied a.of.base b.of.base
+  pub at : Suits (sort.Number kind.Int) i
+  pub from : Suits (sort.Number kind.Int) j
+  pub count : Suits (sort.Number kind.Int) n
+
+-- a string, a separator, and an array for the parts
+pub record SplitRule (s u a : OperandType) : Type 0 where
+  pub text : Suits sort.String s
+  pub separator : Suits (sort.Number kind.Ushort) u
+  pub parts : StringsPlace a
+
+-- a time and the place of its structure; a structure
+pub record ToStructureRule (classes : List Class) (t s : OperandType) : Type 0 where
+  pub time : Suits (sort.Number kind.Datetime) t
+  pub place : s.place ≡ true
+  pub structure : TimeStructure classes s.of
+
+pub record FromStructureRule (classes : List Class) (s : OperandType) : Type 0 where
+  pub value : s.place ≡ false
+  pub structure : TimeStructure classes s.of
+
+-- native functions of arrays of numbers, copies, splits and structures (MQL5 Reference, Array Functions;
+-- String Functions, StringSplit; Common Functions, ZeroMemory; Date and Time)
+abbrev pub Lends : List Class → Native → List OperandType → Type 0
+Lends classes natives.ArrayMaximum xs = ThreeKinds ExtremeRule xs
+Lends classes natives.ArrayMinimum xs = ThreeKinds ExtremeRule xs
+Lends classes natives.ArraySort xs = OneKind NumbersPlace xs
+Lends classes natives.ArrayInitialize xs = TwoKinds InitializeRule xs
+Lends classes natives.ArrayCopy xs = FiveKinds CopyArrayRule xs
+Lends classes natives.ZeroMemory xs = OneKind (λ k. k.place ≡ true) xs
+Lends classes natives.StringSplit xs = ThreeKinds SplitRule xs
+Lends classes natives.TimeToStruct xs = TwoKinds (ToStructureRule classes) xs
+Lends classes natives.StructToTime xs = OneKind (FromStructureRule classes) xs
+Lends classes _ xs = ⊥
+
+-- a native function asks the world, whatever it hands over, or computes by arguments of its own rule or of
+-- its signature
+pub data Answered (classes : List Class) (f : Native) (xs : List OperandType) : Type 0 where
+  ByPlaces : Lends classes f xs → Answered classes f xs
+  Comments : (f ≡ natives.Comment) → AllShown xs → Answered classes f xs
+  Counts : (f ≡ natives.MathAbs) → OneKind Counted xs → Answered classes f xs
+  Compares : (is_comparing f ≡ true) → TwoKinds BothCounted xs → Answered classes f xs
+  Formats : (f ≡ natives.StringFormat) → FormatShown xs → Answered classes f xs
+  ByWorld : (asks f ≡ true) → Answered classes f xs
+  ByValues : (is_computed f ≡ true) → TakesAll (signature f).parameters xs → Answered classes f xs
+
+pub record NativeRule (code : Code) (kinds : Kinds) (f : Native) (k behind : ℕ)
+    (xs rest : List OperandType) : Type 0 where
+  pub answered : Answered code.classes f xs
   pub after : List OperandType
   pub gives : GivesResult (signature f).result xs rest after
   pub goes_on : kinds k behind ≡ Some after
@@ -478,5 +572,5 @@ Leads code kinds k c place (instruction.Unless label) ks =
 Leads code kinds k c place instruction.Step ks = kinds k (place + 1) ≡ Some ks
 Leads code kinds k c place (instruction.Call f) ks = CallRule code kinds f k (place + 1) ks
 Leads code kinds k c place (instruction.Native f n) ks =
-    Taking n ks [] (λ xs rest. NativeRule kinds f k (place + 1) xs rest)
+    Taking n ks [] (λ xs rest. NativeRule code kinds f k (place + 1) xs rest)
 Leads code kinds k c place instruction.Return ks = ks ≡ with_result c.result []
