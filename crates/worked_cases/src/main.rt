@@ -3,7 +3,6 @@
 
 mod case;
 mod commands;
-mod events;
 mod stages;
 
 use case::Case;
@@ -24,7 +23,6 @@ fn given(alloc: Global, case: &Case) -> Result<Text8, OutOfMemory> {
         "tokens" => stages::tokens_of(alloc, case)?,
         "parse" => stages::parsed(alloc, case, false)?,
         "tree" => stages::parsed(alloc, case, true)?,
-        "events" => events::events(alloc, case)?,
         _ => return commands::written(alloc, case),
     };
     let mut text = Text8::from_slice(alloc, line.as_bytes())?;

@@ -8,7 +8,7 @@ use mql_tree::{Token, Tokens, Tree, lex, text_of_bytes};
 use std::alloc::Global;
 
 /// The sources that the files of a case are. Bytes that are no text make an empty one.
-pub fn sources_of(alloc: Global, case: &Case) -> Result<Sources, OutOfMemory> {
+fn sources_of(alloc: Global, case: &Case) -> Result<Sources, OutOfMemory> {
     let mut sources = Sources::new(alloc);
     for held in &case.files {
         let text = match text_of_bytes(alloc, held.bytes.as_slice()) {
