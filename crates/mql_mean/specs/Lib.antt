@@ -1,10 +1,3 @@
 pub mod Errors
 pub mod Answer
-pub mod Natives
-pub mod World
-pub mod Store
-pub mod Apply
-pub mod Ask
-pub mod Means
-pub mod Types
-pub mod Talk
+pub mod Values

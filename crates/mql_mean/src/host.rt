@@ -1,6 +1,4 @@
 //! What a program asks the world.
-ghost use Rattle.std.specs.Prelude.{◌≡◌, MatchResult};
-ghost use Rattle.mql_mean.specs.Natives.{Takes, Answers};
 
 use crate::error::ErrorKind;
 use crate::value::{Value, ValueList};
@@ -29,18 +27,4 @@ pub enum HostEnd {
     /// The call ends the run with this error.
     Error(ErrorKind),
     OutOfMemory,
-}
-
-/// The world of a program.
-pub trait Host {
-    ghost use Rattle.mql_mean.specs.declared.host.HostCall.{HostCall};
-    ghost use Rattle.mql_mean.specs.Answer.{Answer};
-
-    /// From one state of the world, a call may get an answer and lead to another state.
-    ghost host_step: { Self → HostCall → Answer → Self → Type 0 };
-
-    /// Asks the world. The reply is one that the called function may give.
-    fn ask(&mut self, call: &HostCall) -> Result<Reply, HostEnd>
-        requires { Takes call.now }
-        ensures { Answers host_step self.old call.now result self.new };
 }

@@ -1,7 +1,6 @@
 //! Values.
 ghost use Rattle.std.specs.Prelude.{◌≡◌, IfOk};
-ghost use Rattle.mql_mean.specs.Apply.{number_of};
-ghost use Rattle.mql_mean.specs.Natives.{all_print, is_int, prints};
+ghost use Rattle.mql_mean.specs.Values.{number_of};
 
 use fx8::{Fix8, IntKind, ItemList, OutOfMemory, Text};
 use std::alloc::Global;
@@ -25,16 +24,6 @@ pub enum Value {
 
 /// Values in order.
 pub type ValueList = ItemList<Value>;
-
-// The kind `int`.
-fn is_int(kind: IntKind) -> bool
-    ensures { result ≡ is_int kind }
-{
-    match kind {
-        IntKind::Int => true,
-        _ => false,
-    }
-}
 
 impl Value {
     /// Another value that is the same.
@@ -61,17 +50,6 @@ impl Value {
             _ => None,
         }
     }
-
-    /// Whether it can be printed: an `int` or a string.
-    pub fn prints(&self) -> bool
-        ensures { result ≡ prints self.now }
-    {
-        match self {
-            Value::Num(kind, _) => is_int(*kind),
-            Value::Str(_) => true,
-            Value::Dbl(_) | Value::Ptr(_) | Value::Arr(_) | Value::Rec(_) => false,
-        }
-    }
 }
 
 #[cycle(copy)]
@@ -83,16 +61,4 @@ fn copies(alloc: Global, values: &[Value]) -> Result<ValueList, OutOfMemory>
         copies.push(value.copy(alloc)?)?;
     }
     Ok(copies)
-}
-
-/// Whether each of the values can be printed.
-pub fn all_print(values: &[Value]) -> bool
-    ensures { result ≡ all_print values.now }
-{
-    for value in values {
-        if !value.prints() {
-            return false;
-        }
-    }
-    true
 }

@@ -3,7 +3,7 @@
 use Rattle.std.specs.Prelude.{ℕ, ◌+◌, pos, ◌&&◌, ◌-ℤ◌, nat_le, Bool, true, false, List, [], ◌∷◌, ◌++◌, length, Option, Some, None}
 use Rattle.fx8.specs.Integers.{wrapped, is_zero}
 use Rattle.fx8.specs.Doubles.{fits_double}
-use Rattle.mql_mean.specs.Natives.{is_void}
+use Rattle.mql_mean.specs.Values.{is_void}
 use Rattle.mql_mean.specs.Answer.{Answer, Replied, Refused}
 use Rattle.mql_mean.specs.declared.host.HostCall.{HostCall}
 use Rattle.mql_mean.specs.declared.host.Reply.{Reply}

@@ -2,7 +2,7 @@
 ghost use Rattle.std.specs.Prelude.{◌≡◌, ◌&&◌, ◌-ℤ◌, IfOk, length, nat_le};
 ghost use Rattle.fx8.specs.Doubles.{fits_double};
 ghost use Rattle.fx8.specs.Integers.{is_zero, wrapped};
-ghost use Rattle.mql_mean.specs.Natives.{is_void};
+ghost use Rattle.mql_mean.specs.Values.{is_void};
 ghost use Rattle.mql_meaning.specs.Cells.{put};
 ghost use Rattle.mql_meaning.specs.Calls as calls;
 ghost use Rattle.mql_meaning.specs.Operands.{most_units};

@@ -1,8 +1,0 @@
-//! A law of the source's meaning.
-ghost use Rattle.mql_mean.specs.Talk.{MeansTalks};
-
-/// What a program means over every list of answers is one talk with the world: what it asks depends on the
-/// answers that it got so far alone. The call does nothing.
-pub fn is_talk()
-    ensures { MeansTalks }
-{}
