@@ -1,4 +1,5 @@
 pub mod Ends
 pub mod Operands
 pub mod Pace
+pub mod Quick
 pub mod Steps
