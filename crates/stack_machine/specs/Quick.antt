@@ -1,124 +1,53 @@
--- The quick ways of the machine: instructions on numbers of 64 bits, over operands that take no memory.
-use Rattle.std.specs.Prelude.{◌≡◌, ◌<◌, ◌≤◌, ◌++◌, ℕ, slice_get, ℤ, Bool, true, false, List, [], ◌∷◌, map, Option, Some, None, Result, Ok, Err}
-use Rattle.fx8.specs.declared.int_kind.IntKind.{IntKind}
-use Rattle.fx8.specs.declared.int_operator.IntOperator.{IntOperator}
-use Rattle.fx8.specs.declared.fix_fault.FixFault.{FixFault}
+-- Instructions on operands that take no memory, on top of those of a running machine.
+use Rattle.std.specs.Prelude.{◌≡◌, ◌<◌, ◌≤◌, ℕ, Bool, true, false, List, [], map, Some, Result, Ok, Err}
 use Rattle.fx8.specs.declared.out_of_memory.OutOfMemory.{OutOfMemory}
-use Rattle.fx8.specs.Integers.{InRange, wrapped}
-use Rattle.fx8.specs.Operators.{computed}
-use Rattle.mql_mean.specs.declared.value.Value.TheVariants as value
 use Rattle.mql_mean.specs.declared.host.HostCall.{HostCall}
 use Rattle.mql_mean.specs.Answer.{Answer}
-use Rattle.mql_meaning.specs.declared.cell.Cell.{Cell}
-use Rattle.mql_meaning.specs.declared.cell.Cell.TheVariants as cell
-use Rattle.mql_meaning.specs.declared.place.Root.{Root}
-use Rattle.mql_meaning.specs.declared.place.Root.TheVariants as root
-use Rattle.mql_meaning.specs.declared.store.Store.{Store}
-use Rattle.mql_meaning.specs.Changes.{Change, Done, then_some}
-use Rattle.mql_meaning.specs.Operands as meaning
-use Rattle.mql_meaning.specs.Places.{at_root, local_place, locals_of, own}
 use Rattle.mql_meaning.specs.Runs.{world}
 use Rattle.store_frames.specs.Operands.{shown}
 use Rattle.stack_code.specs.declared.code.Code.{Code}
 use Rattle.stack_code.specs.declared.code.Instruction.{Instruction}
-use Rattle.stack_code.specs.Machine.{Next, On, act, advance, Comes}
-use Rattle.stack_machine.specs.declared.light.Light.{Light}
-use Rattle.stack_machine.specs.declared.light.Light.TheVariants as light
-use Rattle.stack_machine.specs.declared.light.Number.{Number}
+use Rattle.stack_code.specs.Machine.{Next, On, act, Comes}
+use Rattle.stack_unboxed.specs.declared.unboxed.Unboxed.{Unboxed}
+use Rattle.stack_unboxed.specs.Unboxed.{upon}
 use Rattle.stack_machine.specs.declared.state.State.{State}
 use Rattle.stack_machine.specs.Pace.{left}
 use Rattle.stack_machine.specs.Steps.{back, on}
 
--- a number that is told is this one
-abbrev pub Is : Option ℤ → ℤ → Type 0
-Is (Some n) x = n ≡ x
-Is None x = Unit {0}
+-- a running machine, with unboxed operands on top of its own
+abbrev pub topped : State → List Unboxed → ℕ → List HostCall → List Answer → Next
+topped s top n calls answers =
+    On s.function s.place (upon top (map shown s.operands)) (map back s.backs) n (world s.store calls answers)
 
--- a number that is said to be in a kind's range is there
-abbrev pub Fits : Bool → IntKind → ℤ → Type 0
-Fits true k x = InRange k x
-Fits false k x = Unit {0}
-
--- a number that is told is what an operator gives
-abbrev pub Computes : Option ℤ → IntOperator → IntKind → ℤ → ℤ → Type 0
-Computes (Some z) o k x y = computed o k x y ≡ Ok z
-Computes None o k x y = Unit {0}
-
--- the operand of the meaning
-abbrev pub heavy : Light → meaning.Operand
-heavy (light.Number m) = meaning.Val (value.Num m.kind m.number)
-heavy (light.Variable r) = meaning.At (at_root r)
-
--- operands on top of others
-abbrev pub upon : List Light → List meaning.Operand → List meaning.Operand
-upon lights ops = map heavy lights ++ ops
-
--- the cell at a root that is no object
-abbrev pub cell_of : Root → Store → Option Cell
-cell_of (root.Global g) store = slice_get store.globals g
-cell_of (root.Local frame local) store =
-    then_some (slice_get (locals_of (slice_get store.frames frame)) local) own
-cell_of (root.Object serial) store = None
-
--- what is told is the number that a cell holds
-abbrev pub Holds : Option Number → Option Cell → Type 0
-Holds (Some m) c = c ≡ Some (cell.One (value.Num m.kind m.number))
-Holds None c = Unit {0}
-
--- what is told is the root at which a local stands
-abbrev pub Names : Option Root → ℕ → Store → Type 0
-Names (Some r) local store = local_place local store ≡ Done (at_root r) store
-Names None local store = Unit {0}
-
--- an operand that is given is what a change gives; where none is, the store is as it was
-abbrev pub Gave : Option Light → Change meaning.Operand → Store → Store → Type 0
-Gave (Some x) f s s' = f s ≡ Done (heavy x) s'
-Gave None f s s' = s' ≡ s
-
--- the same, where the store stays
-abbrev pub Tells : Option Light → Change meaning.Operand → Store → Type 0
-Tells (Some x) f s = f s ≡ Done (heavy x) s
-Tells None f s = Unit {0}
-
--- a change was made, or nothing was done
-abbrev pub Made : Bool → Change (Unit {0}) → Store → Store → Type 0
-Made true f s s' = f s ≡ Done tt s'
-Made false f s s' = s' ≡ s
-
--- the whole of what an effect does was done, or nothing; want of memory says nothing
-abbrev pub Did : (List meaning.Operand → Change (List meaning.Operand)) → Result Bool OutOfMemory
-    → List Light → List Light → Store → Store → Type 0
-Did f (Ok true) p p' s s' = (ops : List meaning.Operand) → f (upon p ops) s ≡ Done (upon p' ops) s'
-Did f (Ok false) p p' s s' = (p' ≡ p) × (s' ≡ s)
-Did f (Err e) p p' s s' = Unit {0}
-
--- a running machine, with light operands on top of the others
-abbrev pub lit : State → List Light → ℕ → List HostCall → List Answer → Next
-lit s p n calls answers =
-    On s.function s.place (upon p (map shown s.operands)) (map back s.backs) n (world s.store calls answers)
+-- nothing was done
+abbrev pub Same : State → List Unboxed → ℕ → State → List Unboxed → ℕ → Type 0
+Same s top n s' top' n' = (s' ≡ s) × (top' ≡ top) × (n' ≡ n)
 
 -- the whole of an instruction was done, or nothing; want of memory says nothing
-abbrev pub Acted : Code → Instruction → Result Bool OutOfMemory → State → List Light → ℕ → State → List Light
-    → ℕ → Type 0
-Acted code i (Ok true) s p n s' p' n' =
+abbrev pub Acted : Code → Instruction → Result Bool OutOfMemory → State → List Unboxed → ℕ → State
+    → List Unboxed → ℕ → Type 0
+Acted code i (Ok true) s top n s' top' n' =
     (calls : List HostCall) (answers : List Answer)
-    → act code (Some i) s.function s.place (upon p (map shown s.operands)) (map back s.backs) n
-    (world s.store calls answers) ≡ lit s' p' n' calls answers
-Acted code i (Ok false) s p n s' p' n' = (s' ≡ s) × (p' ≡ p) × (n' ≡ n)
-Acted code i (Err e) s p n s' p' n' = Unit {0}
+    → act code (Some i) s.function s.place (upon top (map shown s.operands)) (map back s.backs) n
+    (world s.store calls answers) ≡ topped s' top' n' calls answers
+Acted code i (Ok false) s top n s' top' n' = Same s top n s' top' n'
+Acted code i (Err e) s top n s' top' n' = Unit {0}
 
--- some instructions lead from one state to another, which is no farther from the end
-pub record Leads (code : Code) (s : State) (p : List Light) (n : ℕ) (s' : State) (p' : List Light) (n' : ℕ) : Type 0 where
-  pub comes : (calls : List HostCall) (answers : List Answer) → Comes code (lit s p n calls answers)
-      (lit s' p' n' calls answers)
-  pub nearer : left code (on s' n' [] []) ≤ left code (on s n [] [])
+-- some instructions that ask the world nothing lead from one state to another
+abbrev pub Leads : Code → State → List Unboxed → ℕ → State → List Unboxed → ℕ → Type 0
+Leads code s top n s' top' n' =
+    (calls : List HostCall) (answers : List Answer)
+    → Comes code (topped s top n calls answers) (topped s' top' n' calls answers)
 
--- one instruction was done, or nothing; want of memory says nothing
-abbrev pub Went : Code → Result Bool OutOfMemory → State → List Light → ℕ → State → List Light → ℕ → Type 0
-Went code (Ok b) s p n s' p' n' = Leads code s p n s' p' n'
-Went code (Err e) s p n s' p' n' = Unit {0}
+-- one instruction was done, which brings the end nearer, or nothing; want of memory says nothing
+abbrev pub Went : Code → Result Bool OutOfMemory → State → List Unboxed → ℕ → State → List Unboxed → ℕ → Type 0
+Went code (Ok true) s top n s' top' n' =
+    Leads code s top n s' top' n' × (left code (on s' n' [] []) < left code (on s n [] []))
+Went code (Ok false) s top n s' top' n' = Same s top n s' top' n'
+Went code (Err e) s top n s' top' n' = Unit {0}
 
--- some instructions, or none, with no light operand before and after
-abbrev pub Hurried : Result (Unit {0}) OutOfMemory → Code → State → ℕ → State → ℕ → Type 0
-Hurried (Ok u) code s n s' n' = Leads code s [] n s' [] n'
-Hurried (Err e) code s n s' n' = Unit {0}
+-- some instructions, or none, after which the machine has its own operands alone; the end is no farther
+abbrev pub Hurried : Result (Unit {0}) OutOfMemory → Code → State → ℕ → State → List Unboxed → ℕ → Type 0
+Hurried (Ok u) code s n s' top' n' =
+    Leads code s [] n s' [] n' × (top' ≡ []) × (left code (on s' n' [] []) ≤ left code (on s n [] []))
+Hurried (Err e) code s n s' top' n' = Unit {0}

@@ -24,7 +24,7 @@ pub fn fetch(code: &Code, function: u32, place: u64) -> Option<Instruction>
 }
 
 /// The place of a label of a function.
-fn label_at(code: &Code, function: u32, label: u32) -> Option<u64>
+pub(crate) fn label_at(code: &Code, function: u32, label: u32) -> Option<u64>
     ensures { result ≡ m.label_at code.now function label }
 {
     let function = code.functions.at(function as u64)?;

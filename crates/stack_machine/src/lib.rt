@@ -7,17 +7,15 @@ mod calls;
 mod ends;
 mod events;
 mod flow;
-mod light;
+mod hurry;
 mod machine;
 mod native_functions;
-mod numbers;
 mod operands;
 mod paced;
 mod quick;
 mod run;
 mod state;
 mod step;
-mod variables;
 
 pub use ends::End;
 pub use machine::Machine;

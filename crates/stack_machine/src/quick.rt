@@ -1,196 +1,136 @@
-//! Quick ways of effects: what an effect does where its operands are numbers and variables that hold numbers.
-//! Each does the whole effect, or nothing.
-ghost use Rattle.std.specs.Prelude.{◌≡◌, [], ◌∷◌, List};
-ghost use Rattle.mql_meaning.specs.declared.store.Store as stores;
-ghost use Rattle.mql_meaning.specs.declared.tree.Class as trees;
-ghost use Rattle.mql_meaning.specs.declared.types.VarType as types;
-ghost use Rattle.mql_meaning.specs.declared.operator.Operator.TheVariants as operators;
-ghost use Rattle.mql_meaning.specs.declared.types.Sort.TheVariants as sorts;
-ghost use Rattle.mql_meaning.specs.Apply.{apply};
-ghost use Rattle.stack_code.specs.declared.code.Code as codes;
-ghost use Rattle.stack_code.specs.declared.code.Effect.TheVariants as effects;
-ghost use Rattle.stack_code.specs.Machine.{does_effect, operands_of};
-ghost use Rattle.stack_effects.specs.Works.{applies};
-ghost use Rattle.stack_machine.specs.Quick.{Did, Gave, Tells, heavy};
+//! Instructions on operands that take no memory, on top of those of a running machine: each does the whole
+//! instruction, or nothing.
+ghost use Rattle.std.specs.Prelude.{◌+◌, ◌<◌, ◌^◌, Ok};
+ghost use Rattle.stack_code.specs.declared.code.Instruction.TheVariants as instructions;
+ghost use Rattle.stack_code.specs.Paced.{Paced};
+ghost use Rattle.stack_machine.specs.Quick.{Acted, Went};
 
-use crate::light::{Light, Number};
-use crate::numbers::{fitted, kind_of_result, narrowed, operated};
-use crate::variables::{number_at, own_local, put_number};
-use fx8::{IntKind, IntOperator, OutOfMemory, Stack};
-use mql_mean::Value;
-use mql_meaning::{Operator, Root, Sort, Store};
-use stack_code::{Code, Effect};
-use store_places::set_line;
+use crate::flow::{fetch, label_at};
+use crate::state::State;
+use fx8::{OutOfMemory, Stack};
+use stack_code::{Code, Effect, Instruction};
+use stack_unboxed::{Unboxed, does_unboxed};
 
-/// What an operator gives that takes no operand.
+/// Works on the operands and the store alone.
 #[inline(always)]
-#[tactic(auto, using(crate::proofs::Hurries::local_given))]
-fn given(operator: Operator, store: &Store) -> Option<Light>
-    ensures { (cs : List trees.Class) → Tells result (apply cs operator []) store.now }
+fn plain(
+    code: &Code,
+    effect: Effect,
+    state: &mut State,
+    top: &mut Stack<Unboxed>,
+    steps: &u64,
+) -> Result<bool, OutOfMemory>
+    requires { state.old.place + 1 < 2 ^ 64 }
+    ensures { Acted code.now (instructions.Plain effect) result state.old top.old steps.now state.new top.new
+        steps.now }
 {
-    match operator {
-        Operator::Local(local) => match own_local(local, store) {
-            Some(root) => Some(Light::Variable(root)),
-            None => None,
-        },
-        Operator::Global(global) => Some(Light::Variable(Root::Global(global))),
-        _ => None,
-    }
-}
-
-/// The number that a variable holds.
-#[inline(always)]
-#[tactic(auto, using(crate::proofs::Hurries::number_read))]
-fn read(operand: Light, store: &Store) -> Option<Light>
-    ensures { (cs : List trees.Class) → Tells result (apply cs operators.Read (heavy operand ∷ [])) store.now }
-{
-    match operand {
-        Light::Number(_) => None,
-        Light::Variable(root) => match number_at(root, store) {
-            Some(number) => Some(Light::Number(number)),
-            None => None,
-        },
-    }
-}
-
-/// A number, taken into a kind.
-#[inline(always)]
-#[tactic(auto, using(crate::proofs::Hurries::number_converted))]
-fn converted(kind: IntKind, operand: Light) -> Option<Light>
-    ensures { (cs : List trees.Class) (s : stores.Store) → Tells result (apply cs (operators.Convert (sorts.Number kind)) (heavy operand ∷ [])) s }
-{
-    match operand {
-        Light::Number(old) => match fitted(kind, old.number as i128) {
-            Some(number) => Some(Light::Number(Number { kind, number })),
-            None => None,
-        },
-        Light::Variable(_) => None,
-    }
-}
-
-/// What an operator gives that takes one operand.
-#[inline(always)]
-fn of_one(operator: Operator, operand: Light, store: &Store) -> Option<Light>
-    ensures { (cs : List trees.Class) → Tells result (apply cs operator (heavy operand ∷ [])) store.now }
-{
-    match operator {
-        Operator::Read => read(operand, store),
-        Operator::Convert(Sort::Number(kind)) => converted(kind, operand),
-        _ => None,
-    }
-}
-
-/// What an operator gives of two numbers.
-#[inline(always)]
-#[tactic(auto, using(crate::proofs::Hurries::numbers_given))]
-fn of_numbers(operator: IntOperator, kind: IntKind, x: Light, y: Light) -> Option<Light>
-    ensures { (cs : List trees.Class) (s : stores.Store) → Tells result (apply cs (operators.Binary operator (sorts.Number kind)) (heavy x ∷ heavy y ∷ [])) s }
-{
-    let Light::Number(x) = x else {
-        return None;
-    };
-    let Light::Number(y) = y else {
-        return None;
-    };
-    match operated(operator, kind, x.number, y.number) {
-        Some(number) => Some(Light::Number(Number {
-            kind: kind_of_result(operator, kind),
-            number,
-        })),
-        None => None,
-    }
-}
-
-/// A variable gets a number, which is given.
-#[inline(always)]
-#[tactic(auto, using(crate::proofs::Hurries::number_kept))]
-fn kept(value: Light, place: Light, store: &mut Store) -> Option<Light>
-    ensures { (cs : List trees.Class) → Gave result (apply cs operators.Keep (heavy value ∷ heavy place ∷ [])) store.old store.new }
-{
-    let Light::Number(new) = value else {
-        return None;
-    };
-    let Light::Variable(root) = place else {
-        return None;
-    };
-    if put_number(new, root, store) {
-        Some(value)
+    if does_unboxed(code, effect, top, &mut state.store)? {
+        state.place += 1;
+        Ok(true)
     } else {
-        None
+        Ok(false)
     }
 }
 
-/// What an operator gives that takes two operands.
+/// Goes on at a label.
 #[inline(always)]
-#[tactic(auto, using(crate::proofs::Hurries::told_given))]
-fn of_two(operator: Operator, first: Light, second: Light, store: &mut Store) -> Option<Light>
-    ensures { (cs : List trees.Class) → Gave result (apply cs operator (heavy first ∷ heavy second ∷ [])) store.old store.new }
+fn jump(code: &Code, label: u32, state: &mut State, top: &Stack<Unboxed>, steps: &u64) -> bool
+    ensures { Acted code.now (instructions.Jump label) (Ok result) state.old top.now steps.now state.new top.now
+        steps.now }
 {
-    match operator {
-        Operator::Binary(operator, Sort::Number(kind)) => of_numbers(operator, kind, first, second),
-        Operator::Keep => kept(first, second, store),
-        _ => None,
+    match label_at(code, state.function, label) {
+        Some(place) => {
+            state.place = place;
+            true
+        }
+        None => false,
     }
 }
 
-/// An operator that takes no operand.
+/// Takes a condition, and goes on at a label where it does not hold.
 #[inline(always)]
-#[tactic(auto, using(crate::proofs::Hurries::none_did))]
-fn apply_none(operator: Operator, lights: &mut Stack<Light>, store: &Store) -> Result<bool, OutOfMemory>
-    ensures { (cs : List trees.Class) → Did (applies 0 cs operator) result lights.old lights.new store.now store.now }
+fn unless(
+    code: &Code,
+    label: u32,
+    state: &mut State,
+    top: &mut Stack<Unboxed>,
+    steps: &u64,
+) -> Result<bool, OutOfMemory>
+    requires { state.old.place + 1 < 2 ^ 64 }
+    ensures { Acted code.now (instructions.Unless label) result state.old top.old steps.now state.new top.new
+        steps.now }
 {
-    match given(operator, store) {
-        Some(operand) => {
-            lights.push(operand)?;
+    let Some(place) = label_at(code, state.function, label) else {
+        return Ok(false);
+    };
+    match top.pop() {
+        Some(Unboxed::Number(condition)) => {
+            if condition.number != 0 {
+                state.place += 1;
+            } else {
+                state.place = place;
+            }
             Ok(true)
+        }
+        Some(Unboxed::Variable(root)) => {
+            top.push(Unboxed::Variable(root))?;
+            Ok(false)
         }
         None => Ok(false),
     }
 }
 
-/// An operator that takes the topmost operand.
+/// Spends a step, where one is left.
 #[inline(always)]
-#[tactic(auto, using(crate::proofs::Hurries::one_did))]
-fn apply_one(operator: Operator, lights: &mut Stack<Light>, store: &Store) -> Result<bool, OutOfMemory>
-    ensures { (cs : List trees.Class) → Did (applies 1 cs operator) result lights.old lights.new store.now store.now }
+fn spend(code: &Code, state: &mut State, top: &Stack<Unboxed>, steps: &mut u64) -> bool
+    requires { state.old.place + 1 < 2 ^ 64 }
+    ensures { Acted code.now instructions.Step (Ok result) state.old top.now steps.old state.new top.now
+        steps.new }
 {
-    let Some(operand) = lights.pop() else {
-        return Ok(false);
-    };
-    match of_one(operator, operand, store) {
-        Some(operand) => {
-            lights.push(operand)?;
-            Ok(true)
-        }
-        None => {
-            lights.push(operand)?;
-            Ok(false)
-        }
+    if *steps == 0 {
+        return false;
+    }
+    *steps -= 1;
+    state.place += 1;
+    true
+}
+
+/// What an instruction does: the whole of it, or nothing.
+#[inline(always)]
+fn act(
+    code: &Code,
+    instruction: Instruction,
+    state: &mut State,
+    top: &mut Stack<Unboxed>,
+    steps: &mut u64,
+) -> Result<bool, OutOfMemory>
+    requires { state.old.place + 1 < 2 ^ 64 }
+    ensures { Acted code.now instruction result state.old top.old steps.old state.new top.new steps.new }
+{
+    match instruction {
+        Instruction::Plain(effect) => plain(code, effect, state, top, steps),
+        Instruction::Jump(label) => Ok(jump(code, label, state, top, steps)),
+        Instruction::Unless(label) => unless(code, label, state, top, steps),
+        Instruction::Step => Ok(spend(code, state, top, steps)),
+        Instruction::Call(_) => Ok(false),
+        Instruction::Native(_, _) => Ok(false),
+        Instruction::Return => Ok(false),
     }
 }
 
-/// An operator that takes the two topmost operands.
+/// One instruction, or nothing.
 #[inline(always)]
-#[tactic(auto, using(crate::proofs::Hurries::two_did))]
-fn apply_two(operator: Operator, lights: &mut Stack<Light>, store: &mut Store) -> Result<bool, OutOfMemory>
-    ensures { (cs : List trees.Class) → Did (applies 2 cs operator) result lights.old lights.new store.old store.new }
+pub(crate) fn advance(
+    code: &Code,
+    state: &mut State,
+    top: &mut Stack<Unboxed>,
+    steps: &mut u64,
+) -> Result<bool, OutOfMemory>
+    requires { Paced code.now }
+    ensures { Went code.now result state.old top.old steps.old state.new top.new steps.new }
 {
-    let Some(second) = lights.pop() else {
-        return Ok(false);
-    };
-    let Some(first) = lights.pop() else {
-        lights.push(second)?;
-        return Ok(false);
-    };
-    match of_two(operator, first, second, store) {
-        Some(operand) => {
-            lights.push(operand)?;
-            Ok(true)
-        }
-        None => {
-            lights.push(first)?;
-            lights.push(second)?;
-            Ok(false)
-        }
+    match fetch(code, state.function, state.place) {
+        Some(instruction) => act(code, instruction, state, top, steps),
+        None => Ok(false),
     }
 }

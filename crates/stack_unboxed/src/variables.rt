@@ -3,9 +3,9 @@ ghost use Rattle.std.specs.Prelude.{◌≡◌, Some, slice_get};
 ghost use Rattle.mql_mean.specs.declared.value.Value.TheVariants as values;
 ghost use Rattle.mql_meaning.specs.Changes.{then_some};
 ghost use Rattle.mql_meaning.specs.Places.{at_root, own, write};
-ghost use Rattle.stack_machine.specs.Quick.{Holds, Made, Names, cell_of};
+ghost use Rattle.stack_unboxed.specs.Unboxed.{Holds, Made, Names, Told, cell_of};
 
-use crate::light::Number;
+use crate::unboxed::Number;
 use crate::numbers::narrowed;
 use mql_mean::Value;
 use mql_meaning::{Cell, Frame, Root, Slot, Store};
@@ -14,6 +14,23 @@ use store_places::{put_base, top};
 
 /// The most cells that are in use.
 const MOST_CELLS: u64 = 1_000_000;
+
+/// The number that a value is, where it fits 64 bits.
+#[inline(always)]
+pub(crate) fn number_of(value: &Value) -> Option<Number>
+    ensures { Told result (Some value.now) }
+{
+    match value {
+        Value::Num(kind, number) => match narrowed(*number) {
+            Some(number) => Some(Number {
+                kind: *kind,
+                number,
+            }),
+            None => None,
+        },
+        _ => None,
+    }
+}
 
 /// The number that a cell holds, where it fits 64 bits.
 #[inline(always)]

@@ -2,9 +2,9 @@ use Rattle.std.proofs.Common.{sym, subst, FitsSigned, w64, rules}
 use Rattle.std.specs.Int.{w128}
 use Rattle.std.proofs.lemmas.Int.{to_z-of_z}
 use Rattle.fx8.specs.declared.int_operator.IntOperator.{IntOperator}
-use Rattle.stack_machine.specs.Quick.{Computes}
-use Rattle.stack_machine.proofs.Ranges.{added, subtracted, multiplied, equal, other}
-use Rattle.stack_machine.proofs.numbers.in_kind.Goals as goal
+use Rattle.stack_unboxed.specs.Unboxed.{Computes}
+use Rattle.stack_unboxed.proofs.Ranges.{added, subtracted, multiplied, equal, other}
+use Rattle.stack_unboxed.proofs.numbers.in_kind.Goals as goal
 
 pub returns-in-Add : goal.returns-in-Add
 returns-in-Add c =

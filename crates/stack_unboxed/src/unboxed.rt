@@ -12,7 +12,7 @@ pub struct Number {
 
 /// An operand that takes no memory.
 #[derive(Clone, Copy)]
-pub enum Light {
+pub enum Unboxed {
     /// A number.
     Number(Number),
     /// The place of a whole variable or object.

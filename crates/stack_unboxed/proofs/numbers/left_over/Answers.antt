@@ -1,8 +1,8 @@
 use Rattle.std.proofs.Common.{pos, ◌<ℤ◌, arith, FitsSigned, w64, rules}
 use Rattle.std.specs.Int.{w128}
 use Rattle.std.proofs.lemmas.Int.{ints, to_z-of_z}
-use Rattle.stack_machine.proofs.Ranges.{left_over}
-use Rattle.stack_machine.proofs.numbers.left_over.Goals as goal
+use Rattle.stack_unboxed.proofs.Ranges.{left_over}
+use Rattle.stack_unboxed.proofs.numbers.left_over.Goals as goal
 
 pub returns : goal.returns
 returns c =

@@ -9,7 +9,7 @@ use Rattle.fx8.specs.declared.int_operator.IntOperator.TheVariants as op
 use Rattle.fx8.specs.Integers.{InRange, wrapped, truth, is_zero, is_bool, DifferBy, modulus}
 use Rattle.fx8.specs.Operators.{computed, exact}
 use Rattle.fx8.proofs.KindLaws.{wrapped_alone}
-use Rattle.stack_machine.specs.Quick.{Computes, Is}
+use Rattle.stack_unboxed.specs.Unboxed.{Computes, Is}
 
 zero_or_one : (x : ℤ) → InRange kind.Bool x → x ≡ wrapped kind.Bool x
 unfolding wrapped

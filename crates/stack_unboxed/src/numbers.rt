@@ -2,7 +2,7 @@
 ghost use Rattle.std.specs.Prelude.{◌≡◌, ◌<ℤ◌, pos, ◌+ℤ◌, ◌-ℤ◌, ◌*ℤ◌, int_lt, int_le, int_rem};
 ghost use Rattle.fx8.specs.Integers.{InRange, is_zero, truth, wrapped};
 ghost use Rattle.mql_meaning.specs.Operators as operators;
-ghost use Rattle.stack_machine.specs.Quick.{Computes, Fits, Is};
+ghost use Rattle.stack_unboxed.specs.Unboxed.{Computes, Fits, Is};
 
 use fx8::{IntKind, IntOperator, int_op, wrap};
 

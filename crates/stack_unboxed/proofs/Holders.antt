@@ -18,7 +18,7 @@ use Rattle.mql_meaning.specs.declared.store.Store.{Store}
 use Rattle.mql_meaning.specs.Cells.{tag, put, told}
 use Rattle.mql_meaning.specs.Changes.{Change, ◌>>=◌, Out, Done, after, either, give, must, the, top}
 use Rattle.mql_meaning.specs.Places.{at_root, base_cell, cell_at, depth, local_place, locals_of, most_cells, part, read, replace, set_base, slot_place, with_part, write}
-use Rattle.stack_machine.specs.Quick.{cell_of}
+use Rattle.stack_unboxed.specs.Unboxed.{cell_of}
 
 pub named_so : (local d : ℕ) (store : Store) (f : Frame) (c : Cell) → top store ≡ Some f →
     slice_get f.locals local ≡ Some (Own c) → d ≡ depth store → local_place local store ≡ Done (at_root (root.Local d local)) store
