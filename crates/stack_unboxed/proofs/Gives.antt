@@ -117,6 +117,7 @@ IsOver (Over why s) = Unit {0}
 
 none_lost : (o : Option Frame) (new s s' : Store) (why : Ended) →
     after (the o s) (λ (_ : Frame). becomes new) ≡ Over why s' → s' ≡ s
+unfolding store_left IsOver
 none_lost None new s s' why e = sym (ap store_left e)
 none_lost (Some f) new s s' why e = absurd (subst (λ (o : Out (Unit {0})). IsOver o) (sym e) (tt {0}))
 
@@ -126,3 +127,10 @@ no_line line s s' why e = none_lost (top s) _ s s' why e
 pub line_did : (code : Code) (ts : List VarType) (line : ℕ) (p : List Unboxed) (s s' : Store) →
     Made true (set_line line) s s' → Did (does_effect code ts (effect.Line line)) (Ok true) p p s s'
 line_did code ts line p s s' e ops = ap (λ (o : Out (Unit {0})). after o (λ _. give (upon p ops))) e
+
+-- two operands are put back
+pub two_back : (cs : List Class) (o : Operator) (x y : Unboxed) (p others rest q p' : List Unboxed) (s s' : Store) →
+    p ≡ y ∷ others → others ≡ x ∷ rest → q ≡ x ∷ rest → p' ≡ y ∷ q → Gave None (apply cs o (boxed x ∷ boxed y ∷ [])) s s' →
+    Did (applies 2 cs o) (Ok false) p p' s s'
+two_back cs o x y p others rest q p' s s' d d' e e' same =
+    (e' ∙ ap (λ (l : List Unboxed). y ∷ l) (e ∙ sym d') ∙ sym d, same)

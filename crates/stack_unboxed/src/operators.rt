@@ -11,7 +11,7 @@ use crate::numbers::{fitted, kind_of_result, operated};
 use crate::unboxed::{Number, Unboxed};
 use crate::variables::{number_at, own_local, put_number};
 use fx8::{IntKind, IntOperator};
-use mql_meaning::{Operator, Sort, Store};
+use mql_meaning::{Operator, Root, Sort, Store};
 
 /// What an operator gives that takes no operand.
 #[inline(always)]
