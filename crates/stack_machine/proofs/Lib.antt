@@ -1,4 +1,5 @@
 pub mod Begins
 pub mod Falls
+pub mod Hurries
 pub mod Lands
 pub mod Turns
