@@ -1,5 +1,5 @@
 //! Many instructions at once, over operands that take no memory.
-ghost use Rattle.std.specs.Prelude.{◌≡◌, [], ◌++◌, map, IfOk, OnOk};
+ghost use Rattle.std.specs.Prelude.{◌≡◌, [], map, IfOk, OnOk};
 ghost use Rattle.stack_code.specs.Paced.{Paced};
 ghost use Rattle.stack_machine.specs.Quick.{Hurried};
 ghost use Rattle.stack_unboxed.specs.Unboxed.{boxed, upon};

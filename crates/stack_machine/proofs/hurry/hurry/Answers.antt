@@ -1,6 +1,6 @@
+use Rattle.std.proofs.Common.{[]}
 use Rattle.stack_machine.specs.Pace.{left}
 use Rattle.stack_machine.specs.Steps.{on}
-use Rattle.std.proofs.Common.{[]}
 use Rattle.stack_machine.proofs.Hurries.{led_on, nearer_on, hurried}
 use Rattle.stack_machine.proofs.hurry.hurry.Goals as goal
 
