@@ -46,8 +46,8 @@ fn spill(alloc: Global, top: &mut Stack<Unboxed>, own: &mut Stack<Operand>) -> R
     own.push_list(operands(alloc, top)?)
 }
 
-/// Does instructions, as long as each can be done on operands that take no memory. The machine then has its own
-/// operands alone.
+/// Does instructions, as long as each can be done on operands that take no memory. The machine then has its
+/// own operands alone.
 pub(crate) fn hurry(
     alloc: Global,
     code: &Code,
