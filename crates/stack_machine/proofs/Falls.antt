@@ -146,12 +146,17 @@ module _ (code : Code) where
     act_below (op.Native f c) k place n ops backs w q here = absurd q
     act_below op.Return k place n ops backs w q here = returns_below (function_at code k) place n ops backs w (in_total code.functions k place _ here)
 
-    -- an instruction that goes on is nearer to the end
-    pub nearer : {A : Type 0} (i : Instruction) (s s' : State) (n n' : ℕ) (r : Result A Fault) → Quiet i → fetch code s.function s.place ≡ Some i → Acts code i s n r s' n' → Nearer code r s n s' n'
-    nearer i s s' n n' (Ok a) q here acts =
+    -- an instruction that goes on is nearer to the end, whatever the operands are
+    pub nears : (i : Instruction) (s s' : State) (n n' : ℕ) (ops ops' : List meaning.Operand) → Quiet i → fetch code s.function s.place ≡ Some i →
+        act code (Some i) s.function s.place ops (map steps.back s.backs) n (world s.store [] []) ≡ On s'.function s'.place ops' (map steps.back s'.backs) n' (world s'.store [] []) →
+        left code (on s' n' [] []) < left code (on s n [] [])
+    nears i s s' n n' ops ops' q here acted =
         subst (λ (o : Option Instruction). left code (on s' n' [] []) < rank (is_step o) n (longest + 2) (behind longest s.place + behind_all longest (map steps.back s.backs))) (sym here)
-        (subst (Below (rank (is_step (Some i)) n (longest + 2) (behind longest s.place + behind_all longest (map steps.back s.backs)))) (acts [] [])
-        (act_below i s.function s.place n (map shown s.operands) (map steps.back s.backs) (world s.store [] []) q here))
+        (subst (Below (rank (is_step (Some i)) n (longest + 2) (behind longest s.place + behind_all longest (map steps.back s.backs)))) acted
+        (act_below i s.function s.place n ops (map steps.back s.backs) (world s.store [] []) q here))
+
+    pub nearer : {A : Type 0} (i : Instruction) (s s' : State) (n n' : ℕ) (r : Result A Fault) → Quiet i → fetch code s.function s.place ≡ Some i → Acts code i s n r s' n' → Nearer code r s n s' n'
+    nearer i s s' n n' (Ok a) q here acts = nears i s s' n n' (map shown s.operands) (map shown s'.operands) q here (acts [] [])
     nearer i s s' n n' (Err e) q here acts = tt
 
   pub native_nearer : {A : Type 0} (s s' : State) (n : ℕ) (r : Result A Fault) (f : Native) (c : ℕ) → fetch code s.function s.place ≡ Some (op.Native f c) → Follows r s s' → Nearer code r s n s' n

@@ -2,3 +2,4 @@ pub mod Begins
 pub mod Falls
 pub mod Lands
 pub mod Turns
+pub mod Unboxed
