@@ -1,5 +1,6 @@
 pub mod Begins
 pub mod Falls
+pub mod Keeps
 pub mod Lands
 pub mod Turns
 pub mod Unboxed

@@ -26,9 +26,9 @@ use Rattle.stack_unboxed.specs.Unboxed.{Did, boxed, upon}
 use Rattle.stack_machine.specs.declared.state.State.{State}
 use Rattle.stack_machine.specs.Operands.{tested}
 use Rattle.stack_machine.specs.Pace.{left}
-use Rattle.stack_machine.specs.Quick.{Acted, Asks, Leads, Same, Went, topped}
+use Rattle.stack_machine.specs.Quick.{Acted, Went}
 use Rattle.stack_machine.specs.Steps.{back, on}
-use Rattle.stack_machine.proofs.Falls.{Quiet, nears}
+use Rattle.stack_machine.proofs.Falls.{nears}
 use Rattle.stack_machine.proofs.Lands.{lands}
 
 -- a number as a condition
@@ -81,24 +81,14 @@ module _ (code : Code) (s : State) (n : ℕ) where
   step_spent n' top e calls answers =
       ap (λ (m : ℕ). stepped m (On s.function (s.place + 1) (upon top (map shown s.operands)) (map back s.backs)) (world s.store calls answers)) e
 
--- what asks the world nothing is quiet
-quiet : (i : Instruction) → Asks (Ok true) i → Quiet i
-quiet (op.Plain e) q = tt
-quiet (op.Jump label) q = tt
-quiet (op.Unless label) q = tt
-quiet op.Step q = tt
-quiet (op.Call f) q = tt
-quiet (op.Native f c) q = q
-quiet op.Return q = tt
-
 -- an instruction that is there, as one of a run
 pub went_on : (code : Code) (i : Instruction) (s s' : State) (n n' : ℕ) (top top' : List Unboxed) (r : Result Bool OutOfMemory) →
-    Paced code → fetch code s.function s.place ≡ Some i → Asks r i → Acted code i r s top n s' top' n' → Went code r s top n s' top' n'
-went_on code i s s' n n' top top' (Ok true) paced here q acted =
+    Paced code → fetch code s.function s.place ≡ Some i → Acted code i r s top n s' top' n' → Went code r s top n s' top' n'
+went_on code i s s' n n' top top' (Ok true) paced here acted =
     ((λ calls answers. record {
       instructions = 1;
       is = ap (λ (o : Option Instruction). act code o s.function s.place (upon top (map shown s.operands)) (map back s.backs) n (world s.store calls answers)) here ∙ acted calls answers;
     }),
-    nears code paced i s s' n n' (upon top (map shown s.operands)) (upon top' (map shown s'.operands)) (quiet i q) here (acted [] []))
-went_on code i s s' n n' top top' (Ok false) paced here q acted = acted
-went_on code i s s' n n' top top' (Err e) paced here q acted = tt
+    nears code paced i s s' n n' (upon top (map shown s.operands)) (upon top' (map shown s'.operands)) here (acted [] []))
+went_on code i s s' n n' top top' (Ok false) paced here acted = acted
+went_on code i s s' n n' top top' (Err e) paced here acted = tt

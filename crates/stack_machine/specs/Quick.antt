@@ -7,7 +7,6 @@ use Rattle.mql_meaning.specs.Runs.{world}
 use Rattle.store_frames.specs.Operands.{shown}
 use Rattle.stack_code.specs.declared.code.Code.{Code}
 use Rattle.stack_code.specs.declared.code.Instruction.{Instruction}
-use Rattle.stack_code.specs.declared.code.Instruction.TheVariants as instruction
 use Rattle.stack_code.specs.Machine.{Next, On, act, Comes}
 use Rattle.stack_unboxed.specs.declared.unboxed.Unboxed.{Unboxed}
 use Rattle.stack_unboxed.specs.Unboxed.{upon}
@@ -33,11 +32,6 @@ Acted code i (Ok true) s top n s' top' n' =
     (world s.store calls answers) ≡ topped s' top' n' calls answers
 Acted code i (Ok false) s top n s' top' n' = Same s top n s' top' n'
 Acted code i (Err e) s top n s' top' n' = Unit {0}
-
--- what was done asks the world nothing
-abbrev pub Asks : Result Bool OutOfMemory → Instruction → Type 0
-Asks (Ok true) (instruction.Native f c) = ⊥
-Asks r i = Unit {0}
 
 -- some instructions that ask the world nothing lead from one state to another
 abbrev pub Leads : Code → State → List Unboxed → ℕ → State → List Unboxed → ℕ → Type 0

@@ -3,7 +3,7 @@
 ghost use Rattle.std.specs.Prelude.{◌+◌, ◌<◌, ◌^◌, Ok};
 ghost use Rattle.stack_code.specs.declared.code.Instruction.TheVariants as instructions;
 ghost use Rattle.stack_code.specs.Paced.{Paced};
-ghost use Rattle.stack_machine.specs.Quick.{Acted, Asks, Went};
+ghost use Rattle.stack_machine.specs.Quick.{Acted, Went};
 
 use crate::flow::{fetch, label_at};
 use crate::state::State;
@@ -105,8 +105,7 @@ fn act(
     steps: &mut u64,
 ) -> Result<bool, OutOfMemory>
     requires { state.old.place + 1 < 2 ^ 64 }
-    ensures acts { Acted code.now instruction result state.old top.old steps.old state.new top.new steps.new }
-    ensures silent { Asks result instruction }
+    ensures { Acted code.now instruction result state.old top.old steps.old state.new top.new steps.new }
 {
     match instruction {
         Instruction::Plain(effect) => plain(code, effect, state, top, steps),
