@@ -1,20 +1,21 @@
 -- Each instruction of paced code brings the end nearer.
 use Rattle.std.proofs.Common.{◌≡◌, ℕ, zero, suc, ◌+◌, ◌-◌, ◌*◌, ◌<◌, ◌≤◌, Bool, true, false, List, [], ◌∷◌, ◌++◌, length, map, Option, Some, None, Result, Ok, Err, refl, sym, ap, ◌∙◌, subst, arith, ⊎_elim}
-use Rattle.std.specs.Prelude.{slice_get, is_some}
+use Rattle.std.specs.Prelude.{slice_get, is_some, not}
 use Rattle.std.proofs.lemmas.Option.{slice_get_within}
 use Rattle.std.proofs.Math.Nat.{suc-mul}
 use Rattle.std.proofs.lemmas.Bool.{cases_lt}
 use Rattle.mql_mean.specs.declared.value.Value.{Value}
 use Rattle.mql_meaning.specs.Changes.{Change, ◌>>=◌, Out, Done, Over, then_some, give}
-use Rattle.mql_meaning.specs.Runs.{World, world, in_run, change}
+use Rattle.mql_meaning.specs.Runs.{World, world, Res, Go, End, in_run, change}
 use Rattle.mql_meaning.specs.Operands as meaning
+use Rattle.mql_meaning.specs.Calls.{calls_native, native_void}
 use Rattle.mql_meaning.specs.Frames.{enter, leave}
 use Rattle.store_frames.specs.Operands.{shown}
 use Rattle.stack_code.specs.declared.code.Code.{Code}
 use Rattle.stack_code.specs.declared.code.FunctionCode.{FunctionCode}
 use Rattle.stack_code.specs.declared.code.Instruction.{Instruction}
 use Rattle.stack_code.specs.declared.code.Instruction.TheVariants as op
-use Rattle.stack_code.specs.Machine.{Back, Next, On, Halt, land, act, does_effect, locals_of, function_at, fetch, label_at, place_of, goes, branch, starts, calls, goes_back, returned, returns, head_of, Taken, beside, taking, arguments_of, stepped, upon}
+use Rattle.stack_code.specs.Machine.{Back, Next, On, Halt, land, act, does_effect, locals_of, function_at, fetch, label_at, place_of, goes, branch, starts, calls, goes_back, returned, returns, head_of, Taken, beside, taking, arguments_of, stepped, asks, upon}
 use Rattle.stack_machine.specs.declared.ends.Fault.{Fault}
 use Rattle.stack_machine.specs.declared.ends.Fault.TheVariants as fault
 use Rattle.natives.specs.declared.native.Native.{Native}
@@ -23,6 +24,7 @@ use Rattle.stack_machine.specs.declared.state.State.{State}
 use Rattle.stack_machine.specs.Operands.{tested}
 use Rattle.stack_code.specs.Paced.{Paced, jumps_to}
 use Rattle.stack_machine.specs.Pace.{Nearer, total, behind, behind_all, is_step, rank, left}
+use Rattle.stack_machine.proofs.Keeps.{Kept, calls_native_keeps}
 use Rattle.stack_machine.specs.Steps as steps
 use Rattle.stack_machine.specs.Steps.{Acts, Follows, on}
 
@@ -48,11 +50,6 @@ rank_le false n width more = omega arith
 rank_lt : (n width more bound : ℕ) → more < width + bound → 0 < bound → rank true n width more < n * width + bound
 rank_lt zero width more bound lt positive = omega (arith, positive)
 rank_lt (suc m) width more bound lt positive = omega (arith, lt, suc-mul m width)
-
--- an instruction that spends no step and asks no world, or a step
-abbrev pub Quiet : Instruction → Type 0
-Quiet (op.Native f c) = ⊥
-Quiet _ = Unit {0}
 
 module _ (code : Code) where
   abbrev longest : ℕ
@@ -109,6 +106,19 @@ module _ (code : Code) where
       (λ (t : Taken Value). goes_back backs (is_some c.result) t.it t.rest)
       (λ (t : Taken Value) w. goes_back_below place n (is_some c.result) t.it t.rest backs w lt)
 
+  -- a native function
+  valued_below : (m : ℕ) (r : Res Value) (n : ℕ) (go : Value → ℕ → World → Next) → Kept n r → ((v : Value) (w : World) → Below m (go v n w)) → Below m (land r go)
+  valued_below m (Go v j w) n go e h = subst (λ (j : ℕ). Below m (go v j w)) (sym e) (h v w)
+  valued_below m (End x j w) n go e h = tt
+
+  asks_below : (f : Native) (c k place n : ℕ) (ops : List meaning.Operand) (backs : List Back) (w : World) → place < longest → Below (bound n place backs) (asks f c k place ops backs n w)
+  asks_below f c k place n ops backs w lt =
+      land_below (bound n place backs) (taking c ops) n w
+      (λ (t : Taken (List meaning.Operand)) n w. land (calls_native f t.it n w) (λ v. On k (place + 1) (upon (not (native_void f)) v t.rest) backs))
+      (λ (t : Taken (List meaning.Operand)) w. valued_below (bound n place backs) (calls_native f t.it n w) n
+      (λ v. On k (place + 1) (upon (not (native_void f)) v t.rest) backs) ((calls_native_keeps f t.it).is n w)
+      (λ v w. next_below k place n (upon (not (native_void f)) v t.rest) backs w lt))
+
   module _ (paced : Paced code) where
     calls_below : (o : Option FunctionCode) (f place n : ℕ) (ops : List meaning.Operand) (b : Back) (backs : List Back) (w : World) → place < longest → b.place ≡ place + 1 → function_at code f ≡ o → Below (bound n place backs) (calls code.classes o f b ops backs n w)
     calls_below None f place n ops b backs w lt e there = tt
@@ -132,27 +142,32 @@ module _ (code : Code) where
     goes_below None i label k place n ops backs w lt here to e = tt
     goes_below (Some target) i label k place n ops backs w lt here to e = label_below k place target n ops backs w lt (λ le. leads k place label target i here to e le)
 
-    act_below : (i : Instruction) (k place n : ℕ) (ops : List meaning.Operand) (backs : List Back) (w : World) → Quiet i → fetch code k place ≡ Some i → Below (rank (is_step (Some i)) n (longest + 2) (behind longest place + behind_all longest backs)) (act code (Some i) k place ops backs n w)
-    act_below (op.Plain e) k place n ops backs w q here = land_below (bound n place backs) (does_effect code (locals_of (function_at code k)) e ops) n w (λ (ops : List meaning.Operand). On k (place + 1) ops backs) (λ ops w. next_below k place n ops backs w (in_total code.functions k place _ here))
-    act_below (op.Jump label) k place n ops backs w q here = goes_below (label_at code k label) (op.Jump label) label k place n ops backs w (in_total code.functions k place _ here) here refl refl
-    act_below (op.Unless label) k place n ops backs w q here = land_below (bound n place backs) (tested ops) n w (λ (t : Taken Bool) n w. branch t.it (On k (place + 1) t.rest backs n w) (goes (label_at code k label) k t.rest backs n w)) (λ (t : Taken Bool) w. test t.it t.rest w)
+    act_below : (i : Instruction) (k place n : ℕ) (ops : List meaning.Operand) (backs : List Back) (w : World) → fetch code k place ≡ Some i → Below (rank (is_step (Some i)) n (longest + 2) (behind longest place + behind_all longest backs)) (act code (Some i) k place ops backs n w)
+    act_below (op.Plain e) k place n ops backs w here = land_below (bound n place backs) (does_effect code (locals_of (function_at code k)) e ops) n w (λ (ops : List meaning.Operand). On k (place + 1) ops backs) (λ ops w. next_below k place n ops backs w (in_total code.functions k place _ here))
+    act_below (op.Jump label) k place n ops backs w here = goes_below (label_at code k label) (op.Jump label) label k place n ops backs w (in_total code.functions k place _ here) here refl refl
+    act_below (op.Unless label) k place n ops backs w here = land_below (bound n place backs) (tested ops) n w (λ (t : Taken Bool) n w. branch t.it (On k (place + 1) t.rest backs n w) (goes (label_at code k label) k t.rest backs n w)) (λ (t : Taken Bool) w. test t.it t.rest w)
       where
         test : (b : Bool) (ops : List meaning.Operand) (w : World) → Below (bound n place backs) (branch b (On k (place + 1) ops backs n w) (goes (label_at code k label) k ops backs n w))
         test true ops w = next_below k place n ops backs w (in_total code.functions k place _ here)
         test false ops w = goes_below (label_at code k label) (op.Unless label) label k place n ops backs w (in_total code.functions k place _ here) here refl refl
-    act_below op.Step k place zero ops backs w q here = tt
-    act_below op.Step k place (suc m) ops backs w q here = next_below k place m ops backs w (in_total code.functions k place _ here)
-    act_below (op.Call f) k place n ops backs w q here = calls_below (function_at code f) f place n ops (record { function = k; place = place + 1 }) backs w (in_total code.functions k place _ here) refl refl
-    act_below (op.Native f c) k place n ops backs w q here = absurd q
-    act_below op.Return k place n ops backs w q here = returns_below (function_at code k) place n ops backs w (in_total code.functions k place _ here)
+    act_below op.Step k place zero ops backs w here = tt
+    act_below op.Step k place (suc m) ops backs w here = next_below k place m ops backs w (in_total code.functions k place _ here)
+    act_below (op.Call f) k place n ops backs w here = calls_below (function_at code f) f place n ops (record { function = k; place = place + 1 }) backs w (in_total code.functions k place _ here) refl refl
+    act_below (op.Native f c) k place n ops backs w here = asks_below f c k place n ops backs w (in_total code.functions k place _ here)
+    act_below op.Return k place n ops backs w here = returns_below (function_at code k) place n ops backs w (in_total code.functions k place _ here)
 
-    -- an instruction that goes on is nearer to the end
-    pub nearer : {A : Type 0} (i : Instruction) (s s' : State) (n n' : ℕ) (r : Result A Fault) → Quiet i → fetch code s.function s.place ≡ Some i → Acts code i s n r s' n' → Nearer code r s n s' n'
-    nearer i s s' n n' (Ok a) q here acts =
+    -- an instruction that goes on is nearer to the end, whatever the operands are
+    pub nears : (i : Instruction) (s s' : State) (n n' : ℕ) (ops ops' : List meaning.Operand) → fetch code s.function s.place ≡ Some i →
+        act code (Some i) s.function s.place ops (map steps.back s.backs) n (world s.store [] []) ≡ On s'.function s'.place ops' (map steps.back s'.backs) n' (world s'.store [] []) →
+        left code (on s' n' [] []) < left code (on s n [] [])
+    nears i s s' n n' ops ops' here acted =
         subst (λ (o : Option Instruction). left code (on s' n' [] []) < rank (is_step o) n (longest + 2) (behind longest s.place + behind_all longest (map steps.back s.backs))) (sym here)
-        (subst (Below (rank (is_step (Some i)) n (longest + 2) (behind longest s.place + behind_all longest (map steps.back s.backs)))) (acts [] [])
-        (act_below i s.function s.place n (map shown s.operands) (map steps.back s.backs) (world s.store [] []) q here))
-    nearer i s s' n n' (Err e) q here acts = tt
+        (subst (Below (rank (is_step (Some i)) n (longest + 2) (behind longest s.place + behind_all longest (map steps.back s.backs)))) acted
+        (act_below i s.function s.place n ops (map steps.back s.backs) (world s.store [] []) here))
+
+    pub nearer : {A : Type 0} (i : Instruction) (s s' : State) (n n' : ℕ) (r : Result A Fault) → fetch code s.function s.place ≡ Some i → Acts code i s n r s' n' → Nearer code r s n s' n'
+    nearer i s s' n n' (Ok a) here acts = nears i s s' n n' (map shown s.operands) (map shown s'.operands) here (acts [] [])
+    nearer i s s' n n' (Err e) here acts = tt
 
   pub native_nearer : {A : Type 0} (s s' : State) (n : ℕ) (r : Result A Fault) (f : Native) (c : ℕ) → fetch code s.function s.place ≡ Some (op.Native f c) → Follows r s s' → Nearer code r s n s' n
   native_nearer s s' n (Ok a) f c here e =

@@ -28,8 +28,14 @@ use Rattle.stack_machine.specs.declared.state.Back.{Back}
 use Rattle.stack_machine.specs.declared.state.State.{State}
 use Rattle.stack_machine.specs.Ends.{as_ended, by_change, halted}
 use Rattle.stack_machine.specs.Operands.{Takes, Gave}
+use Rattle.stack_machine.specs.Quick.{Leads}
 use Rattle.stack_machine.specs.Steps.{Acts, Stepped, Steps, Run, back, on, over}
 use Rattle.stack_machine.proofs.Lands.{lands, ends_so, told}
+
+-- a run so far, and more instructions
+pub comes_on : (code : Code) (j : ℕ) (x y z : Next) → advances code j x ≡ y → Comes code y z → Comes code x z
+comes_on code zero x y z e c = subst (λ t. Comes code t z) (sym e) c
+comes_on code (suc j) x y z e c = let r = comes_on code j (advance code x) y z e c in record { instructions = suc r.instructions; is = r.is }
 
 module _ {W : Type 0} (may : W → HostCall → Answer → W → Type 0) (code : Code) where
   -- a step with no call
@@ -109,11 +115,6 @@ module _ {W : Type 0} (may : W → HostCall → Answer → W → Type 0) (code :
       }
       halted_so w' halt.OutOfMemory s' acts = tt
 
-  -- a run so far, and one more instruction
-  comes_on : (j : ℕ) (x y z : Next) → advances code j x ≡ y → Comes code y z → Comes code x z
-  comes_on zero x y z e c = subst (λ t. Comes code t z) (sym e) c
-  comes_on (suc j) x y z e c = let r = comes_on j (advance code x) y z e c in record { instructions = suc r.instructions; is = r.is }
-
   turns_on : (w m w' : W) (cs : List HostCall) (vs : List Answer) (cs' : List HostCall) (vs' : List Answer) → Turns may w cs vs m → Turns may m cs' vs' w' → Turns may w (cs ++ cs') (vs ++ vs') w'
   turns_on w m w' [] [] cs' vs' t u = subst (λ k. Turns may k cs' vs' w') (sym t) u
   turns_on w m w' [] (v ∷ vs) cs' vs' t u = absurd t
@@ -125,7 +126,16 @@ module _ {W : Type 0} (may : W → HostCall → Answer → W → Type 0) (code :
     made = r.made ++ t.made;
     got = r.got ++ t.got;
     turns = turns_on w m w' r.made r.got t.made t.got r.turns t.turns;
-    holds = λ rest. subst (λ l. Comes code (x l) (to (r.made ++ t.made) rest)) (sym (append_assoc r.got t.got rest)) (comes_on (r.holds (t.got ++ rest)).instructions _ _ _ (r.holds (t.got ++ rest)).is (record { instructions = 1; is = t.holds r.made rest }));
+    holds = λ rest. subst (λ l. Comes code (x l) (to (r.made ++ t.made) rest)) (sym (append_assoc r.got t.got rest)) (comes_on code (r.holds (t.got ++ rest)).instructions _ _ _ (r.holds (t.got ++ rest)).is (record { instructions = 1; is = t.holds r.made rest }));
+  }
+
+  -- some instructions with no call
+  pub run_led : (x : List Answer → Next) (w w' : W) (s s' : State) (n n' : ℕ) → Run may code x w w' (on s n) → Leads code s [] n s' [] n' → Run may code x w w' (on s' n')
+  run_led x w w' s s' n n' r led = record {
+    made = r.made;
+    got = r.got;
+    turns = r.turns;
+    holds = λ rest. comes_on code (r.holds rest).instructions (x (r.got ++ rest)) (on s n r.made rest) (on s' n' r.made rest) (r.holds rest).is (led r.made rest);
   }
 
   pub run_starts : (w : W) (s : State) (n : ℕ) → Run may code (λ answers. on s n [] answers) w w (on s n)

@@ -1,5 +1,5 @@
 //! Many instructions at once, over operands that take no memory.
-ghost use Rattle.std.specs.Prelude.{◌≡◌, [], ◌++◌, map, OnOk};
+ghost use Rattle.std.specs.Prelude.{◌≡◌, [], map, IfOk, OnOk};
 ghost use Rattle.stack_code.specs.Paced.{Paced};
 ghost use Rattle.stack_machine.specs.Quick.{Hurried};
 ghost use Rattle.stack_unboxed.specs.Unboxed.{boxed, upon};
@@ -30,7 +30,7 @@ fn operand(alloc: Global, unboxed: Unboxed) -> Operand
 
 /// Operands as the machine has them, the topmost first.
 fn operands(alloc: Global, top: &mut Stack<Unboxed>) -> Result<ItemList<Operand>, OutOfMemory>
-    ensures { OnOk result ((top.new ≡ []) × (map shown result.ok ≡ map boxed top.old)) }
+    ensures { IfOk result (λ list. (top.new ≡ []) × (map shown list ≡ map boxed top.old)) }
 {
     let mut list = ItemList::new(alloc);
     while let Some(unboxed) = top.pop() {
@@ -46,8 +46,8 @@ fn spill(alloc: Global, top: &mut Stack<Unboxed>, own: &mut Stack<Operand>) -> R
     own.push_list(operands(alloc, top)?)
 }
 
-/// Does instructions, as long as each can be done on operands that take no memory. The machine then has its own
-/// operands alone.
+/// Does instructions, as long as each can be done on operands that take no memory. The machine then has its
+/// own operands alone.
 pub(crate) fn hurry(
     alloc: Global,
     code: &Code,
