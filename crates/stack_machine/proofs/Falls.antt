@@ -1,5 +1,5 @@
 -- Each instruction of paced code brings the end nearer.
-use Rattle.std.proofs.Common.{◌≡◌, ℕ, zero, suc, ◌+◌, ◌-◌, ◌*◌, ◌<◌, ◌≤◌, Bool, true, false, List, [], ◌∷◌, ◌++◌, length, map, Option, Some, None, Result, Ok, Err, refl, sym, ap, ◌∙◌, subst, arith, ⊎_elim}
+use Rattle.std.proofs.Common.{◌≡◌, ℕ, zero, suc, ◌+◌, ◌*◌, ◌<◌, ◌≤◌, Bool, true, false, List, [], ◌∷◌, map, Option, Some, None, Result, Ok, Err, refl, sym, ap, ◌∙◌, subst, arith, ⊎_elim}
 use Rattle.std.specs.Prelude.{slice_get, is_some, not}
 use Rattle.std.proofs.lemmas.Option.{slice_get_within}
 use Rattle.std.proofs.Math.Nat.{suc-mul}
@@ -15,9 +15,8 @@ use Rattle.stack_code.specs.declared.code.Code.{Code}
 use Rattle.stack_code.specs.declared.code.FunctionCode.{FunctionCode}
 use Rattle.stack_code.specs.declared.code.Instruction.{Instruction}
 use Rattle.stack_code.specs.declared.code.Instruction.TheVariants as op
-use Rattle.stack_code.specs.Machine.{Back, Next, On, Halt, land, act, does_effect, locals_of, function_at, fetch, label_at, place_of, goes, branch, starts, calls, goes_back, returned, returns, head_of, Taken, beside, taking, arguments_of, stepped, asks, upon}
+use Rattle.stack_code.specs.Machine.{Back, Next, On, Halt, land, act, does_effect, locals_of, function_at, fetch, label_at, place_of, goes, branch, starts, calls, goes_back, returned, returns, head_of, Taken, taking, arguments_of, asks, upon}
 use Rattle.stack_machine.specs.declared.ends.Fault.{Fault}
-use Rattle.stack_machine.specs.declared.ends.Fault.TheVariants as fault
 use Rattle.natives.specs.declared.native.Native.{Native}
 use Rattle.stack_machine.specs.declared.state.Back as code_back
 use Rattle.stack_machine.specs.declared.state.State.{State}

@@ -1,5 +1,5 @@
 -- Instructions on operands that take no memory.
-use Rattle.std.proofs.Common.{◌≡◌, ℕ, suc, ◌+◌, ◌<◌, Bool, true, false, List, [], ◌∷◌, map, Option, Some, None, Result, Ok, Err, refl, sym, ap, ◌∙◌, subst}
+use Rattle.std.proofs.Common.{◌≡◌, ℕ, suc, ◌+◌, Bool, true, false, List, [], ◌∷◌, map, Option, Some, Result, Ok, Err, refl, sym, ap, ◌∙◌}
 use Rattle.std.specs.Prelude.{not}
 use Rattle.fx8.specs.declared.out_of_memory.OutOfMemory.{OutOfMemory}
 use Rattle.fx8.specs.Integers.{is_zero}
@@ -10,14 +10,14 @@ use Rattle.mql_mean.specs.Answer.{Answer}
 use Rattle.mql_meaning.specs.declared.store.Store.{Store}
 use Rattle.mql_meaning.specs.declared.types.VarType.{VarType}
 use Rattle.mql_meaning.specs.Changes.{Done}
-use Rattle.mql_meaning.specs.Runs.{World, world}
+use Rattle.mql_meaning.specs.Runs.{world}
 use Rattle.mql_meaning.specs.Operands as meaning
 use Rattle.store_frames.specs.Operands.{shown}
 use Rattle.stack_code.specs.declared.code.Code.{Code}
 use Rattle.stack_code.specs.declared.code.Effect.{Effect}
 use Rattle.stack_code.specs.declared.code.Instruction.{Instruction}
 use Rattle.stack_code.specs.declared.code.Instruction.TheVariants as op
-use Rattle.stack_code.specs.Machine.{Next, On, act, branch, does_effect, fetch, function_at, goes, label_at, locals_of, stepped, Taken, beside}
+use Rattle.stack_code.specs.Machine.{On, act, branch, does_effect, fetch, function_at, goes, label_at, locals_of, stepped, Taken, beside}
 use Rattle.stack_code.specs.Paced.{Paced}
 use Rattle.stack_unboxed.specs.declared.unboxed.Unboxed.{Unboxed}
 use Rattle.stack_unboxed.specs.declared.unboxed.Unboxed.TheVariants as unboxed
@@ -25,9 +25,8 @@ use Rattle.stack_unboxed.specs.declared.unboxed.Number.{Number}
 use Rattle.stack_unboxed.specs.Unboxed.{Did, boxed, upon}
 use Rattle.stack_machine.specs.declared.state.State.{State}
 use Rattle.stack_machine.specs.Operands.{tested}
-use Rattle.stack_machine.specs.Pace.{left}
 use Rattle.stack_machine.specs.Quick.{Acted, Went}
-use Rattle.stack_machine.specs.Steps.{back, on}
+use Rattle.stack_machine.specs.Steps.{back}
 use Rattle.stack_machine.proofs.Falls.{nears}
 use Rattle.stack_machine.proofs.Lands.{lands}
 

@@ -1,4 +1,4 @@
-use Rattle.std.proofs.Common.{◌≡◌, Bool, true, false, Some, ◌∷◌, rules}
+use Rattle.std.proofs.Common.{◌≡◌, true, false, Some, ◌∷◌, rules}
 use Rattle.fx8.specs.Integers.{is_zero}
 use Rattle.stack_unboxed.specs.declared.unboxed.Unboxed.TheVariants as unboxed
 use Rattle.stack_code.specs.Machine.{label_at}
