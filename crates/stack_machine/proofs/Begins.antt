@@ -1,5 +1,5 @@
 -- The beginning of an event.
-use Rattle.std.proofs.Common.{◌≡◌, ℕ, ℤ, List, [], map, Option, Some, None, Result, Ok, Err, refl, sym, ap, ◌∙◌, subst}
+use Rattle.std.proofs.Common.{◌≡◌, ℕ, ℤ, List, [], map, Option, Some, None, Result, Ok, Err, sym, ap, ◌∙◌, subst}
 use Rattle.std.specs.Prelude.{IfOk}
 use Rattle.fx8.specs.declared.out_of_memory.OutOfMemory.{OutOfMemory}
 use Rattle.mql_mean.specs.declared.host.HostCall.{HostCall}
@@ -21,7 +21,6 @@ use Rattle.store_cells.specs.Changes.{ended, Does}
 use Rattle.store_frames.specs.declared.operand.Operand.{Operand}
 use Rattle.store_frames.specs.Operands.{shown}
 use Rattle.stack_code.specs.declared.code.Code.{Code}
-use Rattle.stack_code.specs.Machine as machine
 use Rattle.stack_code.specs.Machine.{Next, begins, starts, starts_at, function_at, program_of}
 use Rattle.stack_begins.specs.Begins.{program}
 use Rattle.stack_machine.specs.declared.ends.End.{End}

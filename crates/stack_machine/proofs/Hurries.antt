@@ -71,10 +71,10 @@ module _ (code : Code) where
       Hurried r code s n (record t { operands = own }) end l
   hurried (Err e) b s m t start top mid end own n k l is empty leads nearer w o = tt
   hurried (Ok u) b s m t start top mid end own n k l is empty leads nearer w o =
-      let same : Same m top k t mid l = subst (λ (b : Bool). Went code (Ok b) m top k t mid l) is w in
-      ( leads_on s t (record t { operands = own }) [] mid [] n l l
-          (leads_same s m t [] top mid n k l (subst (λ (p : List Unboxed). Leads code s p n m top k) empty leads) same)
-          (own_alone t mid own l o.1)
-      , o.0
-      , left_same m t top mid k l (left code (on s n [] [])) nearer same
+      let same : Same m top k t mid l = subst (λ (b : Bool). Went code (Ok b) m top k t mid l) is w in (
+        leads_on s t (record t { operands = own }) [] mid [] n l l
+            (leads_same s m t [] top mid n k l (subst (λ (p : List Unboxed). Leads code s p n m top k) empty leads) same)
+            (own_alone t mid own l o.1),
+        o.0,
+        left_same m t top mid k l (left code (on s n [] [])) nearer same,
       )

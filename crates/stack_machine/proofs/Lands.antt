@@ -1,5 +1,5 @@
 -- Where instructions lead the machine that ask the world nothing.
-use Rattle.std.proofs.Common.{◌≡◌, ℕ, ◌+◌, Bool, true, false, List, [], ◌∷◌, map, Option, Some, None, Result, Ok, Err, refl, sym, ap, ◌∙◌, subst}
+use Rattle.std.proofs.Common.{◌≡◌, ℕ, ◌+◌, Bool, true, false, List, [], ◌∷◌, map, Option, Some, Result, Ok, Err, refl, sym, ap, ◌∙◌, subst}
 use Rattle.std.specs.Prelude.{is_some, length, nat_lt}
 use Rattle.mql_mean.specs.declared.value.Value.{Value}
 use Rattle.mql_mean.specs.declared.error.ErrorKind.TheVariants.{StackOverflow}
@@ -33,7 +33,7 @@ use Rattle.stack_machine.specs.declared.state.Back.{Back}
 use Rattle.stack_machine.specs.declared.state.State.{State}
 use Rattle.stack_machine.specs.Ends.{as_ended, by_change, faulted}
 use Rattle.stack_machine.specs.Operands.{Takes, tested}
-use Rattle.stack_machine.specs.Steps.{Acts, Reach, back, bare, on, over}
+use Rattle.stack_machine.specs.Steps.{Reach, back, bare, over}
 
 module _ {A : Type 0} (f : Change A) (store store' : Store) (go : A → ℕ → World → Next) (n : ℕ) (calls : List HostCall) (answers : List Answer) where
   -- a change that is done, and one that ends the run

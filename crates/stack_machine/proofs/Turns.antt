@@ -7,17 +7,15 @@ use Rattle.mql_mean.specs.Answer.{Answer}
 use Rattle.natives.specs.declared.native.Native.{Native}
 use Rattle.mql_meaning.specs.declared.store.Store.{Store}
 use Rattle.mql_meaning.specs.Changes.{Ended, Stuck, Done}
-use Rattle.mql_meaning.specs.Runs.{World, world, Res, Go, End, change}
+use Rattle.mql_meaning.specs.Runs.{World, world, Res, change}
 use Rattle.mql_meaning.specs.Operands as meaning
 use Rattle.mql_meaning.specs.Calls.{native_void, calls_native}
-use Rattle.store_cells.specs.declared.fault.End.TheVariants as change_end
-use Rattle.store_cells.specs.Changes.{ended}
 use Rattle.store_frames.specs.declared.operand.Operand.{Operand}
 use Rattle.store_frames.specs.Operands.{shown}
 use Rattle.stack_code.specs.declared.code.Code.{Code}
 use Rattle.stack_code.specs.declared.code.Instruction.{Instruction}
 use Rattle.stack_code.specs.declared.code.Instruction.TheVariants as op
-use Rattle.stack_code.specs.Machine.{Next, On, Halt, land, act, advance, advances, fetch, Comes, Taken, beside, taking, upon}
+use Rattle.stack_code.specs.Machine.{Next, On, land, act, advance, advances, fetch, Comes, Taken, beside, taking, upon}
 use Rattle.stack_world.specs.declared.halt.Halt as halts
 use Rattle.stack_world.specs.declared.halt.Halt.TheVariants as halt
 use Rattle.stack_world.specs.Turns.{Turns}
@@ -26,7 +24,7 @@ use Rattle.stack_machine.specs.declared.ends.Fault.{Fault}
 use Rattle.stack_machine.specs.declared.ends.Fault.TheVariants as fault
 use Rattle.stack_machine.specs.declared.state.Back.{Back}
 use Rattle.stack_machine.specs.declared.state.State.{State}
-use Rattle.stack_machine.specs.Ends.{as_ended, by_change, halted}
+use Rattle.stack_machine.specs.Ends.{as_ended, halted}
 use Rattle.stack_machine.specs.Operands.{Takes, Gave}
 use Rattle.stack_machine.specs.Quick.{Leads}
 use Rattle.stack_machine.specs.Steps.{Acts, Stepped, Steps, Run, back, on, over}

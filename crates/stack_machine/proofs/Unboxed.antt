@@ -83,11 +83,12 @@ module _ (code : Code) (s : State) (n : ℕ) where
 -- an instruction that is there, as one of a run
 pub went_on : (code : Code) (i : Instruction) (s s' : State) (n n' : ℕ) (top top' : List Unboxed) (r : Result Bool OutOfMemory) →
     Paced code → fetch code s.function s.place ≡ Some i → Acted code i r s top n s' top' n' → Went code r s top n s' top' n'
-went_on code i s s' n n' top top' (Ok true) paced here acted =
-    ((λ calls answers. record {
-      instructions = 1;
-      is = ap (λ (o : Option Instruction). act code o s.function s.place (upon top (map shown s.operands)) (map back s.backs) n (world s.store calls answers)) here ∙ acted calls answers;
-    }),
-    nears code paced i s s' n n' (upon top (map shown s.operands)) (upon top' (map shown s'.operands)) here (acted [] []))
+went_on code i s s' n n' top top' (Ok true) paced here acted = (
+  (λ calls answers. record {
+    instructions = 1;
+    is = ap (λ (o : Option Instruction). act code o s.function s.place (upon top (map shown s.operands)) (map back s.backs) n (world s.store calls answers)) here ∙ acted calls answers;
+  }),
+  nears code paced i s s' n n' (upon top (map shown s.operands)) (upon top' (map shown s'.operands)) here (acted [] []),
+)
 went_on code i s s' n n' top top' (Ok false) paced here acted = acted
 went_on code i s s' n n' top top' (Err e) paced here acted = tt

@@ -40,7 +40,8 @@ Leads code s top n s' top' n' =
     → Comes code (topped s top n calls answers) (topped s' top' n' calls answers)
 
 -- one instruction was done, which brings the end nearer, or nothing; want of memory says nothing
-abbrev pub Went : Code → Result Bool OutOfMemory → State → List Unboxed → ℕ → State → List Unboxed → ℕ → Type 0
+abbrev pub Went :
+    Code → Result Bool OutOfMemory → State → List Unboxed → ℕ → State → List Unboxed → ℕ → Type 0
 Went code (Ok true) s top n s' top' n' =
     Leads code s top n s' top' n' × (left code (on s' n' [] []) < left code (on s n [] []))
 Went code (Ok false) s top n s' top' n' = Same s top n s' top' n'

@@ -17,7 +17,6 @@ use Rattle.stack_world.specs.Turns.{Over}
 use Rattle.stack_machine.specs.declared.ends.End.{End}
 use Rattle.stack_machine.specs.declared.ends.Fault.{Fault}
 use Rattle.stack_machine.specs.declared.ends.Fault.TheVariants as fault
-use Rattle.stack_machine.specs.declared.ends.End.TheVariants as end
 use Rattle.stack_machine.specs.declared.state.Back.{Back}
 use Rattle.stack_machine.specs.declared.state.State.{State}
 use Rattle.stack_machine.specs.Ends.{as_ended}

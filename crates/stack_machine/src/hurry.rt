@@ -40,7 +40,11 @@ fn operands(alloc: Global, top: &mut Stack<Unboxed>) -> Result<ItemList<Operand>
 }
 
 /// Puts operands that take no memory on top of the machine's own.
-fn spill(alloc: Global, top: &mut Stack<Unboxed>, own: &mut Stack<Operand>) -> Result<(), OutOfMemory>
+fn spill(
+    alloc: Global,
+    top: &mut Stack<Unboxed>,
+    own: &mut Stack<Operand>,
+) -> Result<(), OutOfMemory>
     ensures { OnOk result ((top.new ≡ []) × (map shown own.new ≡ upon top.old (map shown own.old))) }
 {
     own.push_list(operands(alloc, top)?)

@@ -1,18 +1,15 @@
 -- What operators and effects give of operands that take no memory.
-use Rattle.std.proofs.Common.{◌≡◌, ℕ, zero, suc, ◌+◌, ◌-◌, Bool, true, false, List, [], ◌∷◌, ◌++◌, map, Option, Some, None, Result, Ok, Err, refl, sym, ap, ◌∙◌, subst, arith}
+use Rattle.std.proofs.Common.{◌≡◌, ℕ, true, false, List, [], ◌∷◌, Option, Some, None, Result, Ok, refl, sym, ap, ◌∙◌, subst}
 use Rattle.std.specs.Prelude.{ℤ, slice_get}
 use Rattle.fx8.specs.declared.int_kind.IntKind.{IntKind}
 use Rattle.fx8.specs.declared.int_operator.IntOperator.{IntOperator}
-use Rattle.fx8.specs.declared.int_operator.IntOperator.TheVariants as op
 use Rattle.fx8.specs.Integers.{wrapped}
-use Rattle.fx8.specs.Operators.{computed}
 use Rattle.mql_mean.specs.declared.value.Value.{Value, out-Value}
 use Rattle.mql_mean.specs.declared.value.Value.TheVariants as value
 use denote.Hole.Carrier.{out}
 use Rattle.mql_meaning.specs.declared.operator.Operator.{Operator}
 use Rattle.mql_meaning.specs.declared.operator.Operator.TheVariants as operator
 use Rattle.mql_meaning.specs.declared.types.Sort.TheVariants as sort
-use Rattle.mql_meaning.specs.declared.cell.Cell.TheVariants as cell
 use Rattle.mql_meaning.specs.declared.place.Place.{Place}
 use Rattle.mql_meaning.specs.declared.place.Root.{Root}
 use Rattle.mql_meaning.specs.declared.store.Frame.{Frame}
@@ -20,11 +17,11 @@ use Rattle.mql_meaning.specs.declared.store.Store.{Store}
 use Rattle.mql_meaning.specs.declared.types.VarType.{VarType}
 use Rattle.mql_meaning.specs.declared.tree.Class.{Class}
 use Rattle.mql_meaning.specs.Apply.{apply}
-use Rattle.mql_meaning.specs.Changes.{Change, ◌>>=◌, Out, Ended, Done, Over, after, becomes, give, the, top}
+use Rattle.mql_meaning.specs.Changes.{Change, Out, Ended, Done, Over, after, becomes, give, the, top}
 use Rattle.mql_meaning.specs.Operands as meaning
 use Rattle.mql_meaning.specs.Operators.{kind_of_result, no_fault}
 use Rattle.fx8.specs.declared.fix_fault.FixFault.{FixFault}
-use Rattle.mql_meaning.specs.Places.{at_root, local_place, read, set_line, write}
+use Rattle.mql_meaning.specs.Places.{at_root, set_line, write}
 use Rattle.stack_unboxed.specs.declared.unboxed.Unboxed.{Unboxed}
 use Rattle.stack_unboxed.specs.declared.unboxed.Unboxed.TheVariants as unboxed
 use Rattle.stack_unboxed.specs.declared.unboxed.Number.{Number}
@@ -32,7 +29,7 @@ use Rattle.stack_code.specs.declared.code.Code.{Code}
 use Rattle.stack_code.specs.declared.code.Effect.TheVariants as effect
 use Rattle.stack_code.specs.Machine.{constant, does_effect, then_upon}
 use Rattle.stack_effects.specs.Works.{applies}
-use Rattle.stack_unboxed.specs.Unboxed.{Did, Gave, Tells, Told, Made, Names, Holds, Is, Computes, cell_of, boxed, upon}
+use Rattle.stack_unboxed.specs.Unboxed.{Did, Gave, Tells, Told, Made, Names, Holds, Computes, cell_of, boxed, upon}
 use Rattle.stack_unboxed.proofs.Holders.{read_so}
 
 pub local_given : (cs : List Class) (local : ℕ) (r : Root) (store : Store) → Names (Some r) local store →
@@ -89,7 +86,7 @@ pub numbers_given : (cs : List Class) (o : IntOperator) (k : IntKind) (x y : Num
 unfolding out-Value out
 numbers_given cs o k x y z s e =
     ap (λ (r : Result ℤ FixFault). after (after (no_fault r s) (λ (n : ℤ). give (value.Num (kind_of_result o k) n)))
-        (λ (v : Value). give (meaning.Val v))) e
+    (λ (v : Value). give (meaning.Val v))) e
 
 pub constant_did : (code : Code) (ts : List VarType) (k : ℕ) (m : Number) (p p' : List Unboxed) (s : Store) →
     Told (Some m) (slice_get code.constants k) → p' ≡ unboxed.Number m ∷ p →

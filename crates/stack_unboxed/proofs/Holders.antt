@@ -1,9 +1,9 @@
 -- Variables that hold numbers.
-use Rattle.std.proofs.Common.{◌≡◌, ℕ, zero, suc, ◌+◌, ◌-◌, ◌<◌, ◌≤◌, Bool, true, false, List, [], ◌∷◌, length, Option, Some, None, refl, sym, ap, ◌∙◌, subst, arith}
-use Rattle.std.specs.Prelude.{ℤ, ◌==◌, nat_le, slice_get}
+use Rattle.std.proofs.Common.{◌≡◌, ℕ, ◌+◌, ◌-◌, ◌<◌, ◌≤◌, Bool, [], Option, Some, None, sym, ap, ◌∙◌, subst, arith}
+use Rattle.std.specs.Prelude.{ℤ, slice_get}
 use Rattle.std.proofs.lemmas.Bool.{eq-eqb, le-leb}
 use Rattle.fx8.specs.declared.int_kind.IntKind.{IntKind}
-use Rattle.mql_mean.specs.declared.value.Value.{Value, out-Value}
+use Rattle.mql_mean.specs.declared.value.Value.{out-Value}
 use denote.Hole.Carrier.{out}
 use Rattle.mql_mean.specs.declared.value.Value.TheVariants as value
 use Rattle.mql_mean.specs.declared.error.ErrorKind.TheVariants.{CellsExhausted}
@@ -16,8 +16,8 @@ use Rattle.mql_meaning.specs.declared.store.Slot.{Slot}
 use Rattle.mql_meaning.specs.declared.store.Slot.TheVariants.{Own}
 use Rattle.mql_meaning.specs.declared.store.Store.{Store}
 use Rattle.mql_meaning.specs.Cells.{tag, put, told}
-use Rattle.mql_meaning.specs.Changes.{Change, ◌>>=◌, Out, Done, after, either, give, must, the, top}
-use Rattle.mql_meaning.specs.Places.{at_root, base_cell, cell_at, depth, local_place, locals_of, most_cells, part, read, replace, set_base, slot_place, with_part, write}
+use Rattle.mql_meaning.specs.Changes.{Out, Done, after, either, give, must, the, top}
+use Rattle.mql_meaning.specs.Places.{at_root, base_cell, cell_at, depth, local_place, locals_of, part, read, replace, set_base, slot_place, with_part, write}
 use Rattle.stack_unboxed.specs.Unboxed.{cell_of}
 
 pub named_so : (local d : ℕ) (store : Store) (f : Frame) (c : Cell) → top store ≡ Some f →
@@ -49,7 +49,7 @@ recounted r k j x y store some few =
     let put_in : Store → Out (Unit {0}) = λ s. Done tt (set_base r (with_part [] (cell.One (value.Num j y))) s) in
     let with_count : ℕ → Store → Out (Unit {0}) = λ n s. Done tt (record s { cells = n }) in
     ap (λ (b : Bool). after (after (must b CellsExhausted store) (λ (_ : Unit {0}). with_count (store.cells - 1 + 1)))
-        (λ (_ : Unit {0}). put_in))
+    (λ (_ : Unit {0}). put_in))
     (le-leb (store.cells - 1 + 1) 1000000 (omega (arith, some, few)))
     ∙ ap (λ (n : ℕ). put_in (record store { cells = n })) (omega (arith, some))
 
@@ -68,10 +68,10 @@ put_so r k j x y new store old e same some few is put_is =
     let v = value.Num j y in
     let c = cell.One (value.Num k x) in
     let first : write v place store ≡ after (the (put c v) store) (λ (d : Cell). replace place c d) =
-        ap (λ (o : Out Cell). after o (λ (c : Cell) (s : Store). after (the (put c v) s) (λ (d : Cell). replace place c d)))
-        (there_is r c store e) in
+    ap (λ (o : Out Cell). after o (λ (c : Cell) (s : Store). after (the (put c v) s) (λ (d : Cell). replace place c d)))
+    (there_is r c store e) in
     let second : after (the (put c v) store) (λ (d : Cell). replace place c d) ≡ replace place c (cell.One v) store =
-        ap (λ (o : Option Cell). after (the o store) (λ (d : Cell). replace place c d)) (put_there k j x y same) in
+    ap (λ (o : Option Cell). after (the o store) (λ (d : Cell). replace place c d)) (put_there k j x y same) in
     first ∙ second ∙ recounted r k j x y store some few
     ∙ ap (λ (c : Cell). Done tt (set_base r (with_part [] c) store)) (sym is)
     ∙ ap (λ (s : Store). Done tt s) (sym put_is)

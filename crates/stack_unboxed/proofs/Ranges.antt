@@ -1,13 +1,13 @@
 -- Numbers in the range of their kind.
-use Rattle.std.proofs.Common.{◌≡◌, ℕ, zero, suc, Bool, true, false, Option, Some, None, Result, Ok, refl, sym, ap, ◌∙◌, subst, arith}
+use Rattle.std.proofs.Common.{◌≡◌, zero, suc, Bool, true, false, Option, Some, None, Ok, refl, sym, ap, ◌∙◌, subst, arith}
 use Rattle.std.specs.Prelude.{ℤ, pos, negsuc, ◌+ℤ◌, ◌-ℤ◌, ◌*ℤ◌, ◌<ℤ◌, int_rem, int_lt, int_le, not}
 use Rattle.std.proofs.lemmas.Int.{ints}
 use Rattle.fx8.specs.declared.int_kind.IntKind.{IntKind}
 use Rattle.fx8.specs.declared.int_kind.IntKind.TheVariants as kind
 use Rattle.fx8.specs.declared.int_operator.IntOperator.{IntOperator}
 use Rattle.fx8.specs.declared.int_operator.IntOperator.TheVariants as op
-use Rattle.fx8.specs.Integers.{InRange, wrapped, truth, is_zero, is_bool, DifferBy, modulus}
-use Rattle.fx8.specs.Operators.{computed, exact}
+use Rattle.fx8.specs.Integers.{InRange, wrapped, truth, is_zero, is_bool}
+use Rattle.fx8.specs.Operators.{exact}
 use Rattle.fx8.proofs.KindLaws.{wrapped_alone}
 use Rattle.stack_unboxed.specs.Unboxed.{Computes, Is}
 

@@ -1,10 +1,9 @@
 -- Operands that take no memory, and what is done to them: the whole of what an effect does, or nothing.
-use Rattle.std.specs.Prelude.{◌≡◌, ◌++◌, ℕ, slice_get, ℤ, Bool, true, false, List, [], ◌∷◌, map, Option, Some, None, Result, Ok, Err}
+use Rattle.std.specs.Prelude.{◌≡◌, ◌++◌, ℕ, slice_get, ℤ, Bool, true, false, List, map, Option, Some, None, Result, Ok, Err}
 use Rattle.fx8.specs.declared.int_kind.IntKind.{IntKind}
 use Rattle.fx8.specs.declared.int_operator.IntOperator.{IntOperator}
-use Rattle.fx8.specs.declared.fix_fault.FixFault.{FixFault}
 use Rattle.fx8.specs.declared.out_of_memory.OutOfMemory.{OutOfMemory}
-use Rattle.fx8.specs.Integers.{InRange, wrapped}
+use Rattle.fx8.specs.Integers.{InRange}
 use Rattle.fx8.specs.Operators.{computed}
 use Rattle.mql_mean.specs.declared.value.Value.{Value}
 use Rattle.mql_mean.specs.declared.value.Value.TheVariants as value

@@ -21,7 +21,11 @@ use store_cells::Fault;
 /// An operator that takes no operand.
 #[inline(always)]
 #[tactic(auto, using(crate::proofs::Gives::none_did))]
-fn apply_none(operator: Operator, top: &mut Stack<Unboxed>, store: &Store) -> Result<bool, OutOfMemory>
+fn apply_none(
+    operator: Operator,
+    top: &mut Stack<Unboxed>,
+    store: &Store,
+) -> Result<bool, OutOfMemory>
     ensures { (cs : List trees.Class) → Did (applies 0 cs operator) result top.old top.new store.now store.now }
 {
     match given(operator, store) {
@@ -36,7 +40,11 @@ fn apply_none(operator: Operator, top: &mut Stack<Unboxed>, store: &Store) -> Re
 /// An operator that takes the topmost operand.
 #[inline(always)]
 #[tactic(auto, using(crate::proofs::Gives::one_did))]
-fn apply_one(operator: Operator, top: &mut Stack<Unboxed>, store: &Store) -> Result<bool, OutOfMemory>
+fn apply_one(
+    operator: Operator,
+    top: &mut Stack<Unboxed>,
+    store: &Store,
+) -> Result<bool, OutOfMemory>
     ensures { (cs : List trees.Class) → Did (applies 1 cs operator) result top.old top.new store.now store.now }
 {
     let Some(operand) = top.pop() else {
@@ -57,7 +65,11 @@ fn apply_one(operator: Operator, top: &mut Stack<Unboxed>, store: &Store) -> Res
 /// An operator that takes the two topmost operands.
 #[inline(always)]
 #[tactic(auto, using(crate::proofs::Gives::two_did))]
-fn apply_two(operator: Operator, top: &mut Stack<Unboxed>, store: &mut Store) -> Result<bool, OutOfMemory>
+fn apply_two(
+    operator: Operator,
+    top: &mut Stack<Unboxed>,
+    store: &mut Store,
+) -> Result<bool, OutOfMemory>
     ensures { (cs : List trees.Class) → Did (applies 2 cs operator) result top.old top.new store.old store.new }
 {
     let Some(second) = top.pop() else {
@@ -82,7 +94,11 @@ fn apply_two(operator: Operator, top: &mut Stack<Unboxed>, store: &mut Store) ->
 
 /// An operator on the topmost operands.
 #[inline(always)]
-fn apply(operator: Operator, top: &mut Stack<Unboxed>, store: &mut Store) -> Result<bool, OutOfMemory>
+fn apply(
+    operator: Operator,
+    top: &mut Stack<Unboxed>,
+    store: &mut Store,
+) -> Result<bool, OutOfMemory>
     ensures { (cs : List trees.Class) →
         Did (applies (operands_of operator) cs operator) result top.old top.new store.old store.new }
 {
@@ -108,7 +124,12 @@ fn constant(code: &Code, number: u32) -> Option<Number>
 /// Puts a constant on top.
 #[inline(always)]
 #[tactic(auto, using(crate::proofs::Gives::constant_did))]
-fn do_constant(code: &Code, number: u32, top: &mut Stack<Unboxed>, store: &Store) -> Result<bool, OutOfMemory>
+fn do_constant(
+    code: &Code,
+    number: u32,
+    top: &mut Stack<Unboxed>,
+    store: &Store,
+) -> Result<bool, OutOfMemory>
     ensures { (ts : List types.VarType) → Did (machine.does_effect code.now ts (effects.Constant number))
         result top.old top.new store.now store.now }
 {

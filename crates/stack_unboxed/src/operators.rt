@@ -98,7 +98,8 @@ fn of_numbers(operator: IntOperator, kind: IntKind, x: Unboxed, y: Unboxed) -> O
 #[inline(always)]
 #[tactic(auto, using(crate::proofs::Gives::number_kept))]
 fn kept(value: Unboxed, place: Unboxed, store: &mut Store) -> Option<Unboxed>
-    ensures { (cs : List trees.Class) → Gave result (apply cs operators.Keep (boxed value ∷ boxed place ∷ [])) store.old store.new }
+    ensures { (cs : List trees.Class) →
+        Gave result (apply cs operators.Keep (boxed value ∷ boxed place ∷ [])) store.old store.new }
 {
     let Unboxed::Number(new) = value else {
         return None;
@@ -116,8 +117,14 @@ fn kept(value: Unboxed, place: Unboxed, store: &mut Store) -> Option<Unboxed>
 /// What an operator gives that takes two operands.
 #[inline(always)]
 #[tactic(auto, using(crate::proofs::Gives::told_given))]
-pub(crate) fn of_two(operator: Operator, first: Unboxed, second: Unboxed, store: &mut Store) -> Option<Unboxed>
-    ensures { (cs : List trees.Class) → Gave result (apply cs operator (boxed first ∷ boxed second ∷ [])) store.old store.new }
+pub(crate) fn of_two(
+    operator: Operator,
+    first: Unboxed,
+    second: Unboxed,
+    store: &mut Store,
+) -> Option<Unboxed>
+    ensures { (cs : List trees.Class) →
+        Gave result (apply cs operator (boxed first ∷ boxed second ∷ [])) store.old store.new }
 {
     match operator {
         Operator::Binary(operator, Sort::Number(kind)) => of_numbers(operator, kind, first, second),

@@ -5,8 +5,8 @@ ghost use Rattle.mql_meaning.specs.Changes.{then_some};
 ghost use Rattle.mql_meaning.specs.Places.{at_root, own, write};
 ghost use Rattle.stack_unboxed.specs.Unboxed.{Holds, Made, Names, Told, cell_of};
 
-use crate::unboxed::Number;
 use crate::numbers::narrowed;
+use crate::unboxed::Number;
 use mql_mean::Value;
 use mql_meaning::{Cell, Frame, Root, Slot, Store};
 use store_cells::tag;
