@@ -35,8 +35,8 @@ fn plain(
 /// Goes on at a label.
 #[inline(always)]
 fn jump(code: &Code, label: u32, state: &mut State, top: &Stack<Unboxed>, steps: &u64) -> bool
-    ensures { Acted code.now (instructions.Jump label) (Ok result) state.old top.now steps.now state.new top.now
-        steps.now }
+    ensures { Acted code.now (instructions.Jump label) (Ok result) state.old top.now steps.now state.new
+        top.now steps.now }
 {
     match label_at(code, state.function, label) {
         Some(place) => {

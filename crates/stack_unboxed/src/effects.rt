@@ -26,7 +26,8 @@ fn apply_none(
     top: &mut Stack<Unboxed>,
     store: &Store,
 ) -> Result<bool, OutOfMemory>
-    ensures { (cs : List trees.Class) → Did (applies 0 cs operator) result top.old top.new store.now store.now }
+    ensures { (cs : List trees.Class) →
+        Did (applies 0 cs operator) result top.old top.new store.now store.now }
 {
     match given(operator, store) {
         Some(operand) => {
@@ -45,7 +46,8 @@ fn apply_one(
     top: &mut Stack<Unboxed>,
     store: &Store,
 ) -> Result<bool, OutOfMemory>
-    ensures { (cs : List trees.Class) → Did (applies 1 cs operator) result top.old top.new store.now store.now }
+    ensures { (cs : List trees.Class) →
+        Did (applies 1 cs operator) result top.old top.new store.now store.now }
 {
     let Some(operand) = top.pop() else {
         return Ok(false);
@@ -70,7 +72,8 @@ fn apply_two(
     top: &mut Stack<Unboxed>,
     store: &mut Store,
 ) -> Result<bool, OutOfMemory>
-    ensures { (cs : List trees.Class) → Did (applies 2 cs operator) result top.old top.new store.old store.new }
+    ensures { (cs : List trees.Class) →
+        Did (applies 2 cs operator) result top.old top.new store.old store.new }
 {
     let Some(second) = top.pop() else {
         return Ok(false);
@@ -176,8 +179,7 @@ fn do_line(code: &Code, line: u32, top: &Stack<Unboxed>, store: &mut Store) -> b
 }
 
 /// What an instruction does to the operands that take no memory, the topmost first, and to the store: the
-/// whole of it, or nothing. It always does the whole of an effect on numbers of 64 bits and variables that hold
-/// such numbers where nothing ends the run and no local is lent.
+/// whole of it, or nothing. What it does not do is left to the general way.
 #[inline(always)]
 pub fn does_unboxed(
     code: &Code,

@@ -1,5 +1,5 @@
-//! Operands that take no memory, numbers of 64 bits and places of whole variables, and what instructions do to
-//! them.
+//! Operands that take no memory, numbers of 64 bits and places of whole variables, and what instructions do
+//! to them.
 #![tactic(auto)]
 
 mod effects;

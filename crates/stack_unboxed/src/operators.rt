@@ -33,7 +33,8 @@ pub(crate) fn given(operator: Operator, store: &Store) -> Option<Unboxed>
 #[inline(always)]
 #[tactic(auto, using(crate::proofs::Gives::number_read))]
 fn read(operand: Unboxed, store: &Store) -> Option<Unboxed>
-    ensures { (cs : List trees.Class) → Tells result (apply cs operators.Read (boxed operand ∷ [])) store.now }
+    ensures { (cs : List trees.Class) →
+        Tells result (apply cs operators.Read (boxed operand ∷ [])) store.now }
 {
     match operand {
         Unboxed::Number(_) => None,
